@@ -1,4 +1,4 @@
-//! What the definitions mean: calls that do nothing, whose contracts are laws about the definitions alone.
+//! What a reader took from its source: a call that does nothing, whose contract is the law.
 
 ghost use Rattle.std.specs.Prelude.{◌≡◌, ◌+◌, ℕ, true, List, [], ◌++◌};
 ghost use Rattle.scr_outside.specs.Bytes.{put_back};

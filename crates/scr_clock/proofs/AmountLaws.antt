@@ -6,6 +6,7 @@ use Rattle.std.proofs.Math.Nat.{mod-add-mod, add-mod-mod}
 use Rattle.std.proofs.lemmas.List.{get_or-map}
 use Rattle.std.proofs.lemmas.List.Elements.{All-map}
 use Rattle.scr_notation.specs.declared.turn.Turn.{Turn}
+use Rattle.scr_clock.specs.declared.amounts.TheConstants.{AMOUNTS}
 use Rattle.scr_clock.specs.Dials.{IsClock, gain_at, dials_turned, solved}
 use Rattle.scr_clock.specs.Held.{clock_after}
 use Rattle.scr_clock.specs.Written.{written, IsClockScramble}
@@ -38,30 +39,12 @@ sums_of dials =
 unfoldable pub amounts_of : List ℕ → List ℕ
 amounts_of dials = map (λ sum. sum % 12) (sums_of dials)
 
--- how often each dial counts in each amount
-abbrev pub counts : List (List ℕ)
-counts =
-    (0 ∷ 0 ∷ 0 ∷ 11 ∷ 1 ∷ 0 ∷ 1 ∷ 11 ∷ 0 ∷ 0 ∷ 0 ∷ 11 ∷ 1 ∷ 1 ∷ [])
-    ∷ (1 ∷ 11 ∷ 0 ∷ 11 ∷ 1 ∷ 0 ∷ 0 ∷ 0 ∷ 0 ∷ 1 ∷ 0 ∷ 11 ∷ 1 ∷ 0 ∷ [])
-    ∷ (0 ∷ 11 ∷ 1 ∷ 0 ∷ 1 ∷ 11 ∷ 0 ∷ 0 ∷ 0 ∷ 1 ∷ 1 ∷ 11 ∷ 0 ∷ 0 ∷ [])
-    ∷ (0 ∷ 0 ∷ 0 ∷ 0 ∷ 1 ∷ 11 ∷ 0 ∷ 11 ∷ 1 ∷ 0 ∷ 1 ∷ 11 ∷ 0 ∷ 1 ∷ [])
-    ∷ (0 ∷ 0 ∷ 0 ∷ 1 ∷ 11 ∷ 1 ∷ 11 ∷ 1 ∷ 11 ∷ 0 ∷ 11 ∷ 2 ∷ 11 ∷ 10 ∷ [])
-    ∷ (11 ∷ 1 ∷ 0 ∷ 1 ∷ 11 ∷ 0 ∷ 11 ∷ 1 ∷ 0 ∷ 11 ∷ 0 ∷ 2 ∷ 10 ∷ 11 ∷ [])
-    ∷ (11 ∷ 1 ∷ 11 ∷ 1 ∷ 11 ∷ 1 ∷ 0 ∷ 0 ∷ 0 ∷ 10 ∷ 11 ∷ 2 ∷ 11 ∷ 0 ∷ [])
-    ∷ (0 ∷ 1 ∷ 11 ∷ 0 ∷ 11 ∷ 1 ∷ 0 ∷ 1 ∷ 11 ∷ 11 ∷ 10 ∷ 2 ∷ 0 ∷ 11 ∷ [])
-    ∷ (1 ∷ 11 ∷ 1 ∷ 11 ∷ 1 ∷ 11 ∷ 1 ∷ 11 ∷ 1 ∷ 2 ∷ 2 ∷ 8 ∷ 2 ∷ 2 ∷ [])
-    ∷ (0 ∷ 0 ∷ 0 ∷ 0 ∷ 0 ∷ 0 ∷ 0 ∷ 0 ∷ 0 ∷ 0 ∷ 0 ∷ 1 ∷ 0 ∷ 11 ∷ [])
-    ∷ (0 ∷ 0 ∷ 0 ∷ 0 ∷ 0 ∷ 0 ∷ 0 ∷ 0 ∷ 0 ∷ 0 ∷ 11 ∷ 1 ∷ 0 ∷ 0 ∷ [])
-    ∷ (0 ∷ 0 ∷ 0 ∷ 0 ∷ 0 ∷ 0 ∷ 0 ∷ 0 ∷ 0 ∷ 11 ∷ 0 ∷ 1 ∷ 0 ∷ 0 ∷ [])
-    ∷ (0 ∷ 0 ∷ 0 ∷ 0 ∷ 0 ∷ 0 ∷ 0 ∷ 0 ∷ 0 ∷ 0 ∷ 0 ∷ 1 ∷ 11 ∷ 0 ∷ [])
-    ∷ (0 ∷ 0 ∷ 0 ∷ 0 ∷ 0 ∷ 0 ∷ 0 ∷ 0 ∷ 0 ∷ 1 ∷ 1 ∷ 9 ∷ 1 ∷ 1 ∷ []) ∷ []
-
--- the hours that the dials come to by such a row
+-- the hours that the dials come to by a row of what each counts
 abbrev hour_by : List ℕ → List ℕ → ℕ
 hour_by dials times = sum (products times dials) % 12
 
 -- the sums are these, row by row
-same_sums : (h : Hours) → map (hour_by (listed h)) counts ≡ amounts_of (listed h)
+same_sums : (h : Hours) → map (hour_by (listed h)) AMOUNTS ≡ amounts_of (listed h)
 unfolding amounts_of
 same_sums h =
     cons_same (omega arith) (cons_same (omega arith) (cons_same (omega arith) (cons_same (omega arith) (cons_same (omega arith)
@@ -70,11 +53,11 @@ same_sums h =
 
 -- so hours found row by row are these amounts
 pub amounts_by_rows : (dials amounts : List ℕ) → IsClock dials → length amounts ≡ 14
-    → ((k : ℕ) → k < 14 → get_or amounts k 0 ≡ sum (products (get_or counts k []) dials) % 12) → amounts ≡ amounts_of dials
+    → ((k : ℕ) → k < 14 → get_or amounts k 0 ≡ sum (products (get_or AMOUNTS k []) dials) % 12) → amounts ≡ amounts_of dials
 amounts_by_rows dials amounts c e h =
-    ext_get_or 0 amounts (map (hour_by dials) counts) e
-    (λ k l. (let low : k < 14 = omega (arith, e) in h k low ∙ sym (get_or-map (hour_by dials) counts k [] 0 low)))
-    ∙ clock_by_dials (λ d. map (hour_by d) counts ≡ amounts_of d) same_sums dials c
+    ext_get_or 0 amounts (map (hour_by dials) AMOUNTS) e
+    (λ k l. (let low : k < 14 = omega (arith, e) in h k low ∙ sym (get_or-map (hour_by dials) AMOUNTS k [] 0 low)))
+    ∙ clock_by_dials (λ d. map (hour_by d) AMOUNTS ≡ amounts_of d) same_sums dials c
 
 -- they are fourteen hours
 pub IsClock-amounts_of : (dials : List ℕ) → IsClock (amounts_of dials)

@@ -1,7 +1,8 @@
 -- Whether a Clock needs at least so many turns, as a test that tries all turns.
-use Rattle.std.specs.Prelude.{ℕ, zero, suc, ◌+◌, Bool, true, false, not, ◌==◌, ◌||◌, List}
+use Rattle.std.specs.Prelude.{ℕ, zero, suc, ◌+◌, ◌↔◌, Bool, true, false, not, ◌==◌, ◌||◌, IsTrue, List}
 use Rattle.std.specs.List.{list_all}
-use Rattle.scr_clock.specs.Dials.{DialTurn, dials_turned, dial_turn}
+use Rattle.scr_combinatorics.specs.Reach.{Needs}
+use Rattle.scr_clock.specs.Dials.{IsClock, DialTurn, dials_turned, clock_puzzle, dial_turn}
 
 -- Whether some number below a bound passes a test.
 unfoldable pub some_below : ℕ → (ℕ → Bool) → Bool
@@ -30,3 +31,8 @@ turns_lead (suc n) dials = some_turn (λ t. turns_lead n (dials_turned dials t))
 unfoldable pub needs_test_clock : List ℕ → ℕ → Bool
 needs_test_clock dials zero = true
 needs_test_clock dials (suc fewer) = not (turns_lead fewer dials)
+
+-- The test tells exactly what a minimum says, of each Clock.
+abbrev pub IsTestExact : Type 0
+IsTestExact = (dials : List ℕ) (least : ℕ) → IsClock dials
+    → IsTrue (needs_test_clock dials least) ↔ Needs clock_puzzle dials least

@@ -29,9 +29,12 @@ fn digits(dials: &[u8; 14]) -> [u128; 14]
 pub struct ClockNumbers;
 
 impl NumberedStates<Clock> for ClockNumbers {
+    ghost use Rattle.scr_clock.specs.Least.{IsTestExact};
     ghost use Rattle.scr_clock.specs.Numbers.{clock_numbered};
 
     ghost numbered = { λ _. clock_numbered };
+
+    ghost told = { λ _. IsTestExact };
 }
 
 impl Numbering for ClockNumbers {
@@ -64,5 +67,5 @@ impl Permit<Clock> for ClockNumbers {
         needs_at_least(state, least)
     }
 
-    fn is_exact(&self) {}
+    ghost exact = { λ _ dials least told _ valid. told dials least valid };
 }

@@ -3,7 +3,7 @@
 //! (`specs/Projections.antt`), and take no memory; a search goes over tables of moves that are made of them.
 //!
 //! The numbers of an orbit's lists go along with its turns, so that a search finds the same on them (`scr_laws`). Over
-//! any states these are lemmas, for a puzzle's crate to state: `proofs/ProjectionLaws.antt` and
+//! any states these are lemmas, for those to cite that search a puzzle: `proofs/ProjectionLaws.antt` and
 //! `proofs/MarkedPieces.antt`. The crate stands on positions, on orbits and on the numbers of lists. What a coordinate
 //! is, and a table of its moves, stands in `scr_positions`, so that tables of distances need no orbits; both are passed
 //! on.

@@ -62,7 +62,4 @@ impl<const N: usize> Coord for Lists<'_, N> {
     fn is_goal(&self, position: u32) -> bool {
         position == 0
     }
-
-    #[inline]
-    fn stays_below(&self) {}
 }

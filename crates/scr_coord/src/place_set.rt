@@ -85,7 +85,4 @@ impl<const N: usize, const K: usize> Coord for PlaceSet<'_, N, K> {
     fn is_goal(&self, position: u32) -> bool {
         u128::from(position) == Choose::<N, K>::rank(&self.home)
     }
-
-    #[inline]
-    fn stays_below(&self) {}
 }

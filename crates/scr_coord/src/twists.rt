@@ -64,7 +64,4 @@ impl<const N: usize, const BASE: usize> Coord for Twists<'_, N, BASE> {
     fn is_goal(&self, position: u32) -> bool {
         position == 0
     }
-
-    #[inline]
-    fn stays_below(&self) {}
 }

@@ -122,8 +122,7 @@ impl Held {
         ensures centres { hold_centres result ≡ self.now.centres }
         ensures valid { IsHeld self.now }
     {
-        self.cube.is_valid();
-        match number_of_hold(&self.centres) {
+        match number_of_hold(&self.centres()) {
             Some(hold) => hold,
             None => unreachable!(),
         }

@@ -1,4 +1,4 @@
-//! Laws of the 3x3x3 and the 2x2x2. The functions do nothing: what each ensures is the law.
+//! Which held cubes turns reach: a call that does nothing, whose contract is the law.
 
 ghost use Rattle.std.specs.Prelude.{◌≡◌, ℕ, ◌↔◌, List, Contains, Some};
 ghost use Rattle.scr_combinatorics.specs.Play.{play};

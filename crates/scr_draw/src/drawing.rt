@@ -52,7 +52,6 @@ pub fn draw<W: Words, P: Numbering + Permit<P::State>>(
     ensures all_taken { IfErr result (λ limit. W.taken words.new ≡ W.taken words.old + limit.words) }
     ensures same_words { W.word_at words.new ≡ W.word_at words.old }
 {
-    puzzle.is_exact();
     let count = puzzle.count();
     let limit = limit_of(count);
     for tried in 0..attempts {

@@ -9,6 +9,9 @@ ghost use Rattle.scr_combinatorics.specs.Reach.{Puzzle, Needs};
 pub trait NumberedStates<S> {
     /// How many states there are, the state of each number, the number of each state, and which states are valid.
     ghost numbered: { Self → Numbered S };
+
+    /// What is so of it besides, as `count` tells: nothing, where an impl names nothing.
+    ghost told: { Self → Type 0 } = { λ _. Unit {0} };
 }
 
 /// The states of an event, numbered from 0: `state_at` and `number_of` are inverse between the
@@ -20,7 +23,8 @@ pub trait Numbering: NumberedStates<<Self as Numbering>::State> {
     /// How many states there are, from 1 to 2^96. Their numbering is one.
     fn count(&self) -> u128
         ensures value { result ≡ (Self.numbered self.now).count }
-        ensures numbering { IsNumbering (Self.numbered self.now) };
+        ensures numbering { IsNumbering (Self.numbered self.now) }
+        ensures told { Self.told self.now };
 
     /// The state of a number, which is below the count.
     fn state_at(&self, number: u128) -> Self::State
@@ -49,9 +53,8 @@ pub trait Permit<S>: NumberedStates<S> {
         requires { least ≤ greatest self.now }
         ensures { result ≡ needs self.now state.now least };
 
-    /// Does nothing: of a valid state the test is true exactly where no word of fewer counted turns leads from it to a
-    /// solved one.
-    fn is_exact(&self)
-        ensures { (s : S) (least : ℕ) → least ≤ greatest self.now → (Self.numbered self.now).IsValid s
-            → IsTrue (needs self.now s least) ↔ Needs (puzzle self.now) s least };
+    /// Of a valid state the test is true exactly where no word of fewer counted turns leads from it to a solved one.
+    ghost exact: { (event : Self) (s : S) (least : ℕ) → Self.told event
+        → least ≤ greatest event → (Self.numbered event).IsValid s
+        → IsTrue (needs event s least) ↔ Needs (puzzle event) s least };
 }

@@ -19,5 +19,4 @@ pub fn drawn_fairly<P: Numbering + Permit<P::State>>(event: &P)
         (least : ℕ) → least ≤ P.greatest event.now → HasOneOutcome space least }
 {
     event.count();
-    event.is_exact();
 }

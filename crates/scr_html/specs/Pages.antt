@@ -14,7 +14,7 @@ use Rattle.scr_drawing.specs.Told.{picture_mark}
 use Rattle.scr_drawing.specs.Legend.{legend_of}
 use Rattle.scr_layout.specs.Group.{Group}
 use Rattle.scr_layout.specs.Texts.{title_of, round_line_of, labels_of}
-use Rattle.scr_markup.specs.Tokens.{Mark}
+use Rattle.scr_markup.specs.Tokens.{Close, Mark, text_of_tokens}
 
 -- an element of a class that tells its text alone
 abbrev pub told : List ℕ → List ℕ → Mark
@@ -98,3 +98,11 @@ page_marks pictures name group =
 -- what a document begins with, before its tokens
 abbrev pub doctype : List ℕ
 doctype = codes "<!DOCTYPE html>\n"
+
+-- its title: a competition's name, where it isn't empty
+abbrev pub document_mark : List ℕ → Mark
+document_mark name = told (codes "document") (if has_bytes name then name else codes "Scrambles")
+
+-- what it ends with
+abbrev pub document_end : List ℕ
+document_end = text_of_tokens (Close (codes "body") ∷ Close (codes "html") ∷ [])

@@ -1,13 +1,13 @@
 //! The begin and the end of a document.
 
-ghost use Rattle.std.specs.Prelude.{◌≡◌, true, [], ◌++◌, OnOk, string_bytes};
+ghost use Rattle.std.specs.Prelude.{◌≡◌, true, [], ◌∷◌, ◌++◌, OnOk, string_bytes};
 ghost use Rattle.scr_markup.specs.Tokens.{Adds, HasNoLineFeed};
 ghost use Rattle.scr_layout.specs.Shown.{HasNoControl};
-ghost use Rattle.scr_html.specs.Pages.{doctype};
+ghost use Rattle.scr_html.specs.Pages.{doctype, document_end, document_mark};
 ghost use Rattle.scr_html.specs.Rules.{is_rule, are_rules};
 
-use crate::tokens::{begin, end, plain};
-use scr_markup::open;
+use crate::tokens::{begin, end, marked, plain};
+use scr_markup::{close, open};
 use std::alloc::AllocError;
 
 /// The style of a document. Pages have no margins that a browser could print in, and room at their own edges, at each
@@ -42,11 +42,12 @@ const RULES: &[&str] = &[
     "li { flex: 0 0 12.5%; height: 13.5mm; padding: 0.5mm 1mm; border-right: 0.5pt solid gray; border-bottom: 0.5pt solid gray; font-size: 6.5pt; line-height: 8pt; color: dimgray; }",
 ];
 
-/// Begins a document of a competition's scrambles, whose name may be empty: up to its first page.
+/// Begins a document of a competition's scrambles, whose name may be empty: its title, and all else that stands before its
+/// first page.
 pub fn write_head(page: &mut String, competition: &str) -> Result<(), AllocError>
     requires { HasNoControl competition.now }
     ensures { OnOk result
-        (Adds (string_bytes page.old ++ doctype) (string_bytes page.new) []) }
+        (Adds (string_bytes page.old ++ doctype) (string_bytes page.new) (document_mark competition.now ∷ [])) }
 {
     page.push_str("<!DOCTYPE html>\n")?;
     open(page, "html", &[("lang", "en")])?;
@@ -62,12 +63,13 @@ pub fn write_head(page: &mut String, competition: &str) -> Result<(), AllocError
 /// Adds the document's title: a competition's name, if it is not empty.
 fn write_title(page: &mut String, competition: &str) -> Result<(), AllocError>
     requires { HasNoControl competition.now }
-    ensures { OnOk result (Adds (string_bytes page.old) (string_bytes page.new) []) }
+    ensures { OnOk result
+        (Adds (string_bytes page.old) (string_bytes page.new) (document_mark competition.now ∷ [])) }
 {
     if competition.is_empty() {
-        plain(page, "title", "Scrambles")
+        marked(page, "title", "document", "Scrambles")
     } else {
-        plain(page, "title", competition)
+        marked(page, "title", "document", competition)
     }
 }
 
@@ -84,9 +86,9 @@ fn write_rules(page: &mut String, rules: &[&str]) -> Result<(), AllocError>
 
 /// Ends a document behind its last page.
 pub fn write_tail(page: &mut String) -> Result<(), AllocError>
-    ensures { OnOk result (Adds (string_bytes page.old) (string_bytes page.new) []) }
+    ensures { OnOk result (string_bytes page.new ≡ string_bytes page.old ++ document_end) }
 {
-    end(page, "body")?;
-    end(page, "html")?;
+    close(page, "body")?;
+    close(page, "html")?;
     Ok(())
 }

@@ -21,7 +21,11 @@ abbrev pub lines_beside : ℕ → Letters → ℕ → ℕ → List ℕ → List 
 lines_beside side net indent first others =
     map (λ row. replicate indent 32 ++ rows_beside net row first others) (range_with_len 0 side)
 
+-- all lines, from above
+abbrev pub net_lines : ℕ → Letters → List (List ℕ)
+net_lines side net =
+    lines_beside side net (side + 1) 0 []
+    ++ (lines_beside side net 0 4 (2 ∷ 1 ∷ 5 ∷ []) ++ lines_beside side net (side + 1) 3 [])
+
 unfoldable pub net_text : ℕ → Letters → List ℕ
-net_text side net =
-    text_of_lines (lines_beside side net (side + 1) 0 []
-    ++ (lines_beside side net 0 4 (2 ∷ 1 ∷ 5 ∷ []) ++ lines_beside side net (side + 1) 3 []))
+net_text side net = text_of_lines (net_lines side net)

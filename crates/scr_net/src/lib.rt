@@ -23,4 +23,4 @@ mod writing;
 pub use geometry::Sticker;
 pub use net::Net;
 pub use pieces::{of_corners, of_cube};
-pub use writing::write_net;
+pub use writing::{net_line, write_net};

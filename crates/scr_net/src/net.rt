@@ -234,6 +234,7 @@ impl<const SIDE: usize> Net<SIDE> {
         ensures value { result.now ≡ slice_index_or (slice_index_or self.now face []) row [] }
         ensures long { length result.now ≡ SIDE }
         ensures letters { (column : ℕ) → slice_index result.now column < 6 }
+        ensures net { IsNet SIDE self.now }
     {
         let faces = &self.letters[..];
         let rows = &faces[usize::from(face)][..];

@@ -1,51 +1,42 @@
 //! The text of a net.
-ghost use Rattle.std.specs.Prelude.{◌≡◌, ℕ, ◌+◌, ◌<◌, ◌≤◌, ◌∷◌, ◌++◌, [], All, length, map, replicate, slice_index};
+ghost use Rattle.std.specs.Prelude.{◌≡◌, ℕ, ◌+◌, ◌*◌, ◌<◌, ◌≤◌, ◌∷◌, ◌++◌, [], All, length, map, replicate, slice_index};
+ghost use Rattle.std.specs.List.{slice_index_or};
 ghost use Rattle.arrayvec.specs.ArrayString.{array_string_len};
 ghost use Rattle.scr_outside.specs.Change.{change_of, Writes};
-ghost use Rattle.scr_text.specs.Lines.{text_of_lines};
-ghost use Rattle.scr_net.specs.Nets.{IsSide};
-ghost use Rattle.scr_net.specs.NetText.{letter_code, lines_beside, net_text, rows_beside};
+ghost use Rattle.scr_net.specs.Nets.{IsNet, IsSide};
+ghost use Rattle.scr_net.specs.NetText.{letter_code, net_lines, net_text, rows_beside};
 
 use crate::net::Net;
 use arrayvec::ArrayString;
 use scr_outside::{Failed, Sink, write_line};
 
-/// Writes a net, one piece a line: the rows of U, each behind as many spaces as a row and one more, those of L, F, R
-/// and B beside each other, and those of D below U's. At `Failed`, which comes only where the sink's count of faults
-/// rose, a first part of it was written.
+/// Writes a net, one piece a line. At `Failed`, which comes only where the sink's count of faults rose, a first part of
+/// it was written.
 pub fn write_net<O: Sink, const SIDE: usize>(out: &mut O, net: &Net<SIDE>) -> Result<(), Failed>
     requires { IsSide SIDE }
     ensures { Writes (change_of O.held O.faults out.old out.new) (net_text SIDE net.now) result }
 {
-    write_beside(out, net, SIDE + 1, 0, &[])?;
-    write_beside(out, net, 0, 4, &[2, 1, 5])?;
-    write_beside(out, net, SIDE + 1, 3, &[])
-}
-
-/// Writes a line for each row, of these faces beside each other.
-fn write_beside<O: Sink, const SIDE: usize>(
-    out: &mut O,
-    net: &Net<SIDE>,
-    indent: usize,
-    first: u8,
-    others: &[u8],
-) -> Result<(), Failed>
-    requires side { IsSide SIDE }
-    requires indent { indent ≤ 8 }
-    requires first { first < 6 }
-    requires few { length others.now ≤ 3 }
-    requires others { All (λ face. face < 6) others.now }
-    ensures { Writes (change_of O.held O.faults out.old out.new)
-        (text_of_lines (lines_beside SIDE net.now indent first others.now)) result }
-{
-    for row in 0..SIDE {
-        write_line(
-            out,
-            "",
-            line_beside(net, indent, row, first, others).as_str(),
-        )?;
+    for place in 0..3 * SIDE {
+        write_line(out, "", net_line(net, place).as_str())?;
     }
     Ok(())
+}
+
+/// The line of a net at a place, from 0 and below three times the number of layers: the rows of U, each behind as many
+/// spaces as a row has letters and one more, those of L, F, R and B beside each other, and those of D below U's.
+pub fn net_line<const SIDE: usize>(net: &Net<SIDE>, place: usize) -> ArrayString<48>
+    requires side { IsSide SIDE }
+    requires place { place < 3 * SIDE }
+    ensures line { result.bytes ≡ slice_index_or (net_lines SIDE net.now) place [] }
+    ensures printable { All (λ byte. 31 < byte) result.bytes }
+{
+    if place < SIDE {
+        line_beside(net, SIDE + 1, place, 0, &[])
+    } else if place < 2 * SIDE {
+        line_beside(net, 0, place - SIDE, 4, &[2, 1, 5])
+    } else {
+        line_beside(net, SIDE + 1, place - 2 * SIDE, 3, &[])
+    }
 }
 
 /// A row of these faces, a space between two, behind an indent.
@@ -63,6 +54,7 @@ fn line_beside<const SIDE: usize>(
     requires few { length others.now ≤ 3 }
     requires others { All (λ face. face < 6) others.now }
     ensures bytes { result.bytes ≡ replicate indent 32 ++ rows_beside net.now row first others.now }
+    ensures net { IsNet SIDE net.now }
     ensures short { array_string_len result ≤ 48 }
 {
     let mut line = spaces(indent);

@@ -1,7 +1,6 @@
 -- The steps of taking back and of tidying, over words that are kept with the last turn first.
-use Rattle.std.proofs.Common.{◌≡◌, ℕ, ◌-◌, ◌<◌, ◌≤◌, Bool, false, IsTrue, List, [], ◌∷◌, ◌++◌, Option, Some, None, length, drop, get_or, reverse, refl, sym, ap, ◌∙◌, subst, arith, suc}
+use Rattle.std.proofs.Common.{◌≡◌, ℕ, ◌-◌, ◌<◌, ◌≤◌, false, IsTrue, List, [], ◌∷◌, ◌++◌, Option, Some, None, length, drop, get_or, reverse, refl, sym, ap, ◌∙◌, subst, arith, suc}
 use Rattle.std.specs.Prelude.{All, map}
-use Rattle.std.specs.Bool.{OnTrue}
 use mathlib.Core.List.{reverse-append, reverse-cons, reverse-reverse}
 use Rattle.std.proofs.Math.Nat.{le_refl}
 use Rattle.std.proofs.Math.Seq.{drop-cons}
@@ -17,7 +16,6 @@ use Rattle.scr_notation.specs.Event.{kind_of}
 use Rattle.scr_notation.specs.Turns.{permits}
 use Rattle.scr_notation.specs.Turning.{opposite, are_alike, turns_merged, turn_merging, has_merging}
 use Rattle.scr_notation.specs.Written.{Written}
-use Rattle.scr_notation.proofs.ReadLaws.{on_true}
 use Rattle.scr_notation.proofs.MergingLaws.{IsMerging-event}
 use Rattle.scr_notation.proofs.OppositeLaws.{permits-opposite}
 
@@ -79,18 +77,22 @@ unfolding tidy
 tidy-more ts k d old new p l e h =
     h ∙ ap (with_turn turn_merging (get_or ts (k - 1) d)) e ∙ sym (ap (tidy turn_merging) (one-earlier ts k d p l))
 
--- a turn of the event is added at the end of a word that has room
-pub pushed-next : (e : Event) (word : List Turn) (t u : Turn) (before after : Written) (b : Bool)
-    → before ≡ record { event = e; turns = word } → t ≡ u → length word < 160 → IsTrue (permits e u)
-    → ((length before.turns < 160) × IsTrue (permits before.event t) → IsTrue b)
-    → OnTrue b (after ≡ record { event = before.event; turns = before.turns ++ t ∷ [] })
+-- a turn is added at the end of a word
+pub pushed-next : (e : Event) (word : List Turn) (t u : Turn) (before after : Written)
+    → before ≡ record { event = e; turns = word } → t ≡ u → after ≡ record { event = before.event; turns = before.turns ++ t ∷ [] }
     → after ≡ record { event = e; turns = word ++ u ∷ [] }
-pushed-next e word t u before after b is same l p exact pushed =
-    let room : length before.turns < 160 = omega (arith, ap (λ s. length s.turns) is) in
-    let permitted : IsTrue (permits before.event t) = ap (λ s. permits s.event t) is ∙ ap (permits e) same ∙ p in
-    on_true b (after ≡ record { event = before.event; turns = before.turns ++ t ∷ [] }) (exact (room, permitted)) pushed
-    ∙ ap (λ s. record { event = s.event; turns = s.turns ++ t ∷ [] }) is
+pushed-next e word t u before after is same pushed =
+    pushed ∙ ap (λ s. record { event = s.event; turns = s.turns ++ t ∷ [] }) is
     ∙ ap (λ x. record { event = e; turns = word ++ x ∷ [] }) same
+
+-- a scramble whose turns are a word has the room of the word, and the turns of its event
+pub room-as : (e : Event) (word : List Turn) (before : Written) → before ≡ record { event = e; turns = word } → length word < 160
+    → length before.turns < 160
+room-as e word before is l = omega (arith, ap (λ (s : Written). length s.turns) is)
+
+pub permits-as : (e : Event) (word : List Turn) (t u : Turn) (before : Written) → before ≡ record { event = e; turns = word } → t ≡ u
+    → IsTrue (permits e u) → IsTrue (permits before.event t)
+permits-as e word t u before is same p = ap (λ (s : Written). permits s.event t) is ∙ ap (permits e) same ∙ p
 
 -- one turn more is taken back
 pub back-more : (ts : List Turn) (k : ℕ) (d : Turn) → 0 < k → k ≤ length ts

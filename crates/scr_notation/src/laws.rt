@@ -1,4 +1,4 @@
-//! Laws of turns, spellings and texts. The functions do nothing: what each ensures is the law.
+//! What is known of the events: a call that does nothing, whose contract is the law.
 
 ghost use Rattle.std.specs.Prelude.{◌≡◌, [], ◌∷◌, filter, map, codes, Some, None};
 ghost use Rattle.std.specs.List.{join_with_byte};

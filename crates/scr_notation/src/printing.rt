@@ -18,14 +18,14 @@ pub fn print(scramble: &Scramble) -> ArrayString<1280>
     let event = scramble.event();
     let mut text = ArrayString::new();
     for turn in scramble.turns() {
-        push_turn(&mut text, event, *turn);
+        write_turn(&mut text, event, *turn);
     }
     text
 }
 
 /// Writes one more turn of this event behind a text.
 #[tactic(auto, unfolding(crate::specs::Written::with_word))]
-fn push_turn(text: &mut ArrayString<1280>, event: Event, turn: Turn)
+fn write_turn(text: &mut ArrayString<1280>, event: Event, turn: Turn)
     requires permitted { IsTrue (permits event turn) }
     requires room { array_string_len text.old + 8 ≤ 1280 }
     ensures { text.new.bytes ≡ with_word text.old.bytes (spelling turn) }

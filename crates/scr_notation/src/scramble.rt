@@ -5,6 +5,7 @@ ghost use Rattle.scr_notation.specs.declared.turn.Turn.{Turn as Letter};
 ghost use Rattle.scr_notation.specs.Event.{kind_of};
 ghost use Rattle.scr_notation.specs.TurnNumbers.{turn_at, turn_count};
 ghost use Rattle.scr_notation.specs.Turns.{permits};
+ghost use Rattle.scr_notation.specs.Written.{IsWritten};
 
 use crate::event::Event;
 use crate::turn::{Turn, is_of_kind, turn_at};
@@ -93,11 +94,10 @@ impl Scramble {
 pub fn push_turn(scramble: &mut Scramble, turn: Turn)
     requires room { length scramble.old.turns < 160 }
     requires of_event { IsTrue (permits scramble.old.event turn) }
-    ensures { scramble.new ≡ record { event = scramble.old.event; turns = scramble.old.turns ++ turn ∷ [] } }
+    ensures value { scramble.new ≡ record { event = scramble.old.event; turns = scramble.old.turns ++ turn ∷ [] } }
+    ensures valid { IsWritten scramble.new }
 {
-    if !scramble.push(turn) {
-        unreachable!();
-    }
+    scramble.turns.push(turn);
 }
 
 /// Adds the turn with a number among the event's turns to a scramble that has room.

@@ -9,7 +9,7 @@ ghost use Rattle.scr_notation.specs.Written.{IsWritten};
 ghost use Rattle.scr_notation.specs.Layers.{twelfths};
 ghost use Rattle.scr_notation.specs.Turning.{opposite, are_alike, face_turned, layers_turned, turns_merged, turn_merging, has_merging};
 
-use crate::scramble::{MOST_TURNS, Scramble};
+use crate::scramble::{MOST_TURNS, Scramble, push_turn};
 use crate::turn::Turn;
 use arrayvec::ArrayVec;
 
@@ -22,7 +22,7 @@ pub fn inverse(scramble: &Scramble) -> Scramble
     let turns = scramble.turns();
     let mut undoing = Scramble::new(scramble.event());
     for k in (0..turns.len()).rev() {
-        undoing.push(opposite(turns[k]));
+        push_turn(&mut undoing, opposite(turns[k]));
     }
     undoing
 }
@@ -38,7 +38,7 @@ pub fn tidy(scramble: &Scramble) -> Scramble
     let last_first = tidied(scramble.turns());
     let mut tidy = Scramble::new(scramble.event());
     for k in (0..last_first.len()).rev() {
-        tidy.push(last_first[k]);
+        push_turn(&mut tidy, last_first[k]);
     }
     tidy
 }

@@ -18,13 +18,25 @@ use std::alloc::Global;
 use std::marker::Model;
 
 /// A source over bytes in memory.
-#[derive(Drop)]
 pub struct MemSource {
     bytes: Vec<u8>,
     place: usize,
     most: usize,
     ends: u64,
     calls: Calls,
+}
+
+// By hand, so that the proof of whoever lets one go meets one call, and not the letting go of each of its parts.
+impl Drop for MemSource {
+    fn drop(self) {
+        let MemSource {
+            bytes: _,
+            place: _,
+            most: _,
+            ends: _,
+            calls: _,
+        } = self;
+    }
 }
 
 impl Model for MemSource {
@@ -88,12 +100,23 @@ impl Source for MemSource {
 }
 
 /// A sink in memory.
-#[derive(Drop)]
 pub struct MemSink {
     held: Vec<u8>,
     room: usize,
     most: usize,
     calls: Calls,
+}
+
+// By hand, so that the proof of whoever lets one go meets one call, and not the letting go of each of its parts.
+impl Drop for MemSink {
+    fn drop(self) {
+        let MemSink {
+            held: _,
+            room: _,
+            most: _,
+            calls: _,
+        } = self;
+    }
 }
 
 impl Model for MemSink {

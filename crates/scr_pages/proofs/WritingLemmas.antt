@@ -1,18 +1,19 @@
 -- Pages written group by group.
-use Rattle.std.proofs.Common.{◌≡◌, ℕ, Bool, IsTrue, ◌+◌, ◌<◌, ◌≤◌, List, [], ◌∷◌, ◌++◌, map, take, length, get_or, refl, sym, ap, ◌∙◌, subst, arith, append_assoc, append-nil, length-append}
+use Rattle.std.proofs.Common.{◌≡◌, ℕ, Bool, IsTrue, ◌+◌, ◌<◌, ◌≤◌, List, [], ◌∷◌, ◌++◌, map, take, length, get_or, refl, sym, ap, ◌∙◌, subst, arith, append_assoc, length-append}
 use Rattle.std.specs.Prelude.{All}
 use Rattle.std.proofs.lemmas.List.{take-take, map-append, take_all}
 use Rattle.std.proofs.Math.Seq.{take-append_seam, get_or-append_seam}
 use Rattle.std.specs.List.{take-map}
 use Rattle.scr_outside.specs.Bytes.{IsFirstPart}
 use Rattle.scr_outside.specs.Change.{Change, Gains, Falters}
+use Rattle.scr_outside.proofs.ChangeLemmas.{Falters-longer}
 use Rattle.scr_read.specs.Sheets.{SheetRound}
 use Rattle.scr_read.specs.Groups.{GroupOf}
 use Rattle.scr_layout.specs.Group.{Group}
 use Rattle.scr_pages.specs.Shown.{shown_group}
 use Rattle.scr_pages.specs.Marked.{IsInSheet}
-use Rattle.scr_pages.specs.Pages.{Look, ArePages}
-use Rattle.scr_pages.specs.Writing.{GoesOn, EndsPages}
+use Rattle.scr_pages.specs.Pages.{Look, AreBegun, ArePages, pages_end}
+use Rattle.scr_pages.specs.Writing.{GoesOn}
 
 -- those of all groups that are left, behind so many that were written
 pub record IsWritten (look : Look) (rounds : List SheetRound) (all left : List GroupOf) (place : ℕ) (out : Change) : Type 0 where
@@ -20,7 +21,7 @@ pub record IsWritten (look : Look) (rounds : List SheetRound) (all left : List G
   pub all_is : all ≡ done ++ left
   pub place_is : length done ≡ place
   pub text : List ℕ
-  pub pages : ArePages look (map (shown_group rounds) done) text
+  pub pages : AreBegun look (map (shown_group rounds) done) text
   pub gains : Gains out text
 
 -- the groups that are done are the first so many of those that are wanted
@@ -51,9 +52,6 @@ in-sheet rounds all done left after group all_is given each =
     subst (IsInSheet rounds) (ap (λ l. get_or l (length done) group) same ∙ get_or-append_seam done group after group)
     (each (length done) group below)
 
-pub whole-part : (text : List ℕ) → IsFirstPart text text
-whole-part text = record { rest = []; parts = sym (append-nil text) }
-
 pub no-part : (text : List ℕ) → IsFirstPart [] text
 no-part text = record { rest = text; parts = refl }
 
@@ -67,15 +65,15 @@ module _ (look : Look) (rounds : List SheetRound) (all left after : List GroupOf
   -- the pages with those of the next group
   pub next-pages : (w : IsWritten look rounds all left place out) (shown : Group) (first : Bool) (piece bytes : List ℕ)
       → shown ≡ shown_group rounds group → (IsTrue first → place ≡ 0) → GoesOn look first shown piece → bytes ≡ piece
-      → ArePages look (map (shown_group rounds) (w.done ++ group ∷ [])) (w.text ++ bytes)
+      → AreBegun look (map (shown_group rounds) (w.done ++ group ∷ [])) (w.text ++ bytes)
   next-pages w shown first piece bytes is none goes same =
       let f = shown_group rounds in
       let more = goes (map f w.done) w.text (λ b. none-before f w.done place w.place_is (none b)) w.pages in
-      subst (λ (gs : List Group). ArePages look gs (w.text ++ bytes)) (ap (λ g. map f w.done ++ g ∷ []) is ∙ sym (map-one f w.done group))
-      (subst (λ (p : List ℕ). ArePages look (map f w.done ++ shown ∷ []) (w.text ++ p)) (sym same) more)
+      subst (λ (gs : List Group). AreBegun look gs (w.text ++ bytes)) (ap (λ g. map f w.done ++ g ∷ []) is ∙ sym (map-one f w.done group))
+      (subst (λ (p : List ℕ). AreBegun look (map f w.done ++ shown ∷ []) (w.text ++ p)) (sym same) more)
 
   pub written-next : (w : IsWritten look rounds all left place out) (then : Change) (bytes : List ℕ) → left ≡ group ∷ after
-      → ArePages look (map (shown_group rounds) (w.done ++ group ∷ [])) (w.text ++ bytes) → Gains then (w.text ++ bytes)
+      → AreBegun look (map (shown_group rounds) (w.done ++ group ∷ [])) (w.text ++ bytes) → Gains then (w.text ++ bytes)
       → IsWritten look rounds all after (place + 1) then
   written-next w then bytes given pages gains = record {
     done = w.done ++ group ∷ [];
@@ -87,12 +85,16 @@ module _ (look : Look) (rounds : List SheetRound) (all left after : List GroupOf
   }
 
   pub falters-next : (w : IsWritten look rounds all left place out) (count : ℕ) (then : Change) (bytes : List ℕ) → left ≡ group ∷ after
-      → place < count → ArePages look (map (shown_group rounds) (w.done ++ group ∷ [])) (w.text ++ bytes) → Falters then (w.text ++ bytes)
+      → place < count → AreBegun look (map (shown_group rounds) (w.done ++ group ∷ [])) (w.text ++ bytes) → Falters then (w.text ++ bytes)
       → (so_many : ℕ) × (text : List ℕ) × ArePages look (take so_many (map (shown_group rounds) (take count all))) text × Falters then text
   falters-next w count then bytes given few pages falters =
       let taken = first-so-many (shown_group rounds) all (w.done ++ group ∷ []) after count (place + 1) (one-more all w.done left after group w.all_is given)
-      (length-append w.done (group ∷ []) ∙ ap (λ n. n + 1) w.place_is) (omega (arith, few)) in
-      (place + 1, w.text ++ bytes, subst (λ (gs : List Group). ArePages look gs (w.text ++ bytes)) (sym taken) pages, falters)
+      (length-append w.done (group ∷ []) ∙ ap (λ n. n + 1) w.place_is) (omega (arith, few)) in (
+        place + 1,
+        (w.text ++ bytes) ++ pages_end look,
+        (w.text ++ bytes, subst (λ (gs : List Group). AreBegun look gs (w.text ++ bytes)) (sym taken) pages, refl),
+        Falters-longer (pages_end look) falters,
+      )
 
 -- memory is wanting for what comes next
 pub wanting-here : (look : Look) (rounds : List SheetRound) (all left : List GroupOf) (place count : ℕ) (out : Change)
@@ -100,18 +102,23 @@ pub wanting-here : (look : Look) (rounds : List SheetRound) (all left : List Gro
     → (so_many : ℕ) × (text : List ℕ) × ArePages look (take so_many (map (shown_group rounds) (take count all))) text
     × ((part : List ℕ) × IsFirstPart part text × Gains out part)
 wanting-here look rounds all left place count out w few =
-    let taken = first-so-many (shown_group rounds) all w.done left count place w.all_is w.place_is few in
-    (place, w.text, subst (λ (gs : List Group). ArePages look gs w.text) (sym taken) w.pages, (w.text, whole-part w.text, w.gains))
+    let taken = first-so-many (shown_group rounds) all w.done left count place w.all_is w.place_is few in (
+      place,
+      w.text ++ pages_end look,
+      (w.text, subst (λ (gs : List Group). AreBegun look gs w.text) (sym taken) w.pages, refl),
+      (w.text, record { rest = pages_end look; parts = refl }, w.gains),
+    )
 
 -- all are done, and the end is added
 pub ended-pages : (look : Look) (rounds : List SheetRound) (all left : List GroupOf) (place count : ℕ) (out : Change) (piece bytes : List ℕ)
-    → (w : IsWritten look rounds all left place out) → place ≡ count → EndsPages look piece → bytes ≡ piece
+    → (w : IsWritten look rounds all left place out) → place ≡ count → piece ≡ pages_end look → bytes ≡ piece
     → ArePages look (map (shown_group rounds) (take count all)) (w.text ++ bytes)
 ended-pages look rounds all left place count out piece bytes w same ends are =
-    let f = shown_group rounds in
-    subst (λ (p : List ℕ). ArePages look (map f (take count all)) (w.text ++ p)) (sym are)
-    (subst (λ (gs : List Group). ArePages look gs (w.text ++ piece)) (sym (so-many f all w.done left count place w.all_is w.place_is same))
-    (ends (map f w.done) w.text w.pages))
+    let f = shown_group rounds in (
+      w.text,
+      subst (λ (gs : List Group). AreBegun look gs w.text) (sym (so-many f all w.done left count place w.all_is w.place_is same)) w.pages,
+      ap (λ b. w.text ++ b) (are ∙ ends),
+    )
 
 pub taken-all : {X : Type 0} (xs : List X) → take (length xs) xs ≡ xs
 taken-all xs = take_all (length xs) xs (omega arith)

@@ -6,7 +6,7 @@ use Rattle.scr_layout.specs.Group.{Group}
 use Rattle.scr_host.specs.declared.fault.Fault.TheVariants as fault
 use Rattle.scr_pages.specs.Faults.{RunFault as Fault}
 use Rattle.scr_pages.specs.declared.look.Look.{Look as Held}
-use Rattle.scr_pages.specs.Pages.{Look, ArePages}
+use Rattle.scr_pages.specs.Pages.{Look, AreBegun, ArePages}
 
 -- what pages look like, as code holds it
 abbrev pub look_of : Held → Look
@@ -15,12 +15,8 @@ look_of look = record { html = look.html; pictures = look.pictures; name = look.
 -- a piece that goes on with pages by those of a group; the first group of all has no pages before
 abbrev pub GoesOn : Look → Bool → Group → List ℕ → Type 0
 GoesOn look first group piece =
-    (before : List Group) (text : List ℕ) → (IsTrue first → before ≡ []) → ArePages look before text
-    → ArePages look (before ++ group ∷ []) (text ++ piece)
-
--- a piece that ends pages
-abbrev pub EndsPages : Look → List ℕ → Type 0
-EndsPages look piece = (groups : List Group) (text : List ℕ) → ArePages look groups text → ArePages look groups (text ++ piece)
+    (before : List Group) (text : List ℕ) → (IsTrue first → before ≡ []) → AreBegun look before text
+    → AreBegun look (before ++ group ∷ []) (text ++ piece)
 
 -- The pages of these groups were written; or a first part of those of the first so many, since the output failed, or
 -- since memory was wanting.

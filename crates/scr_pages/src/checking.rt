@@ -62,13 +62,15 @@ fn survey_of(alloc: Global, bytes: &[u8]) -> Result<Survey, Fault>
     surveyed(alloc, &mut groups)
 }
 
-/// All groups of a sheet.
+/// All groups of a sheet, which is that of one list of rounds alone.
 pub(crate) fn sheet_groups(bytes: &[u8]) -> Result<SheetGroups<'_>, Fault>
     requires { length bytes.now ≤ most_bytes }
     ensures groups { IfOk result (λ groups. (rounds : List SheetRound) × IsSheet bytes.now rounds
         × (groups ≡ groups_of rounds)) }
+    ensures one { (rounds others : List SheetRound) → IsSheet bytes.now rounds → IsSheet bytes.now others → rounds ≡ others }
     ensures fault { IfErr result (λ why. (cause : SheetFault) × (why ≡ Own (Sheet cause)) × IsFirstFault bytes.now cause) }
 {
+    laws::sheets_are_read_back();
     match SheetGroups::of(bytes) {
         Ok(groups) => Ok(groups),
         Err(why) => Err(Fault::Own(PageFault::Sheet(why))),
@@ -100,7 +102,6 @@ fn look_at(alloc: Global, bytes: &[u8]) -> Result<(), Fault>
         → NoneIs IsNear (slots_of (groups_of rounds))) }
     ensures err { IfErr result (RefusesLook bytes.now) }
 {
-    laws::sheets_are_read_back();
     let mut groups = sheet_groups(bytes)?;
     look(alloc, &mut groups)
 }

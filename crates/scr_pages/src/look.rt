@@ -2,8 +2,8 @@
 
 ghost use Rattle.std.specs.Prelude.{◌≡◌, [], OnOk, string_bytes};
 ghost use Rattle.scr_layout.specs.Shown.{HasNoControl};
-ghost use Rattle.scr_pages.specs.Pages.{ArePages};
-ghost use Rattle.scr_pages.specs.Writing.{look_of, GoesOn, EndsPages};
+ghost use Rattle.scr_pages.specs.Pages.{AreBegun, pages_end};
+ghost use Rattle.scr_pages.specs.Writing.{look_of, GoesOn};
 
 use scr_html::{write_group, write_head, write_tail};
 use scr_layout::Group;
@@ -25,7 +25,7 @@ pub(crate) struct Look<'n> {
 pub(crate) fn begin_pages(page: &mut String, look: &Look<'_>) -> Result<(), AllocError>
     requires name { HasNoControl look.now.name.now }
     requires empty { string_bytes page.old ≡ [] }
-    ensures { OnOk result (ArePages (look_of look.now) [] (string_bytes page.new)) }
+    ensures { OnOk result (AreBegun (look_of look.now) [] (string_bytes page.new)) }
 {
     if look.html {
         write_head(page, look.name)?;
@@ -58,7 +58,7 @@ pub(crate) fn group_pages(
 /// Makes what stands behind the last page.
 pub(crate) fn end_pages(page: &mut String, look: &Look<'_>) -> Result<(), AllocError>
     requires { string_bytes page.old ≡ [] }
-    ensures { OnOk result (EndsPages (look_of look.now) (string_bytes page.new)) }
+    ensures { OnOk result (string_bytes page.new ≡ pages_end (look_of look.now)) }
 {
     if look.html {
         write_tail(page)?;

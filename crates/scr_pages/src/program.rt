@@ -15,7 +15,7 @@ use crate::writing::write_groups;
 use scr_host::{Program, read_input};
 use scr_layout::fitting_name;
 use scr_outside::{Sink, Source};
-use scr_read::{SheetGroups, laws};
+use scr_read::SheetGroups;
 use std::alloc::Global;
 
 /// So many letters wide a competition's name is at most.
@@ -101,7 +101,6 @@ fn print_checked<O: Sink>(
     requires checked { IsChecked (asked_of asked.now) bytes.now checked.now }
     ensures { Prints (asked_of asked.now) bytes.now (change_of O.held O.faults out.old out.new) result }
 {
-    laws::sheets_are_read_back();
     let name = fitting_name(alloc, asked.name, WIDTH)?;
     let look = Look {
         html: asked.html,

@@ -7,7 +7,7 @@ use std::test::Fail;
 
 /// A head of each event's rounds, whether a group has five scrambles besides the extra ones and not three, and a
 /// scramble.
-const EVENTS: [(&str, bool, &str); 13] = [
+static EVENTS: [(&str, bool, &str); 13] = [
     ("2x2x2 Cube, at least 4", true, "U R2 F'"),
     ("3x3x3 Cube, at least 0, First round", true, "U D2 L'"),
     ("3x3x3 One-Handed, at least 5", true, "R B2"),
@@ -35,7 +35,7 @@ Round 2: Clock, at least 2, Final\nGroup A\n1. \n2. UR0+\n3. y2\n4. \n5. \nE1. \
 Group B\n1. \n2. \n3. \n4. \n5. \nE1. \nE2. \n\n";
 
 /// A line in place of another, by its number, and the cause that is told of it.
-const SPOILT: [(u32, &str, SheetCause); 19] = [
+static SPOILT: [(u32, &str, SheetCause); 19] = [
     (1, "Round 2: 6x6x6 Cube, random moves", SheetCause::Head),
     (1, "Round 1: 4x4x4 Cube, random moves", SheetCause::Head),
     (1, "Round 1: 6x6x6 Cube, at least 0", SheetCause::Head),
@@ -58,7 +58,7 @@ const SPOILT: [(u32, &str, SheetCause); 19] = [
 ];
 
 /// How many bytes of the sheet stand, and the line at fault and its cause, where they are no sheet.
-const CUT: [(usize, Option<(u32, SheetCause)>); 7] = [
+static CUT: [(usize, Option<(u32, SheetCause)>); 7] = [
     (0, None),
     (80, None),
     (159, None),
@@ -69,7 +69,7 @@ const CUT: [(usize, Option<(u32, SheetCause)>); 7] = [
 ];
 
 /// The groups of the sheet: round, event, number, line with the name, scrambles, and the turns of the first of them.
-const GROUPS: [(u32, Event, u32, u32, usize, usize); 3] = [
+static GROUPS: [(u32, Event, u32, u32, usize, usize); 3] = [
     (0, Event::C666, 0, 2, 5, 2),
     (1, Event::Clock, 0, 10, 7, 0),
     (1, Event::Clock, 1, 19, 7, 0),
@@ -133,8 +133,8 @@ fn with_line(alloc: Global, number: u32, line: &str) -> Result<String, AllocErro
 
 #[test]
 fn each_event(rt: HostRuntime) -> Result<(), Fail> {
-    for (head, has_five, scramble) in EVENTS {
-        let labels = if has_five {
+    for (head, has_five, scramble) in &EVENTS {
+        let labels = if *has_five {
             FIVE.as_slice()
         } else {
             THREE.as_slice()
@@ -148,25 +148,25 @@ fn each_event(rt: HostRuntime) -> Result<(), Fail> {
 
 #[test]
 fn spoilt_lines(rt: HostRuntime) -> Result<(), Fail> {
-    for (line, other, cause) in SPOILT {
-        let text = with_line(rt.alloc(), line, other)?;
-        assert_eq!(rt;
-            told(text.as_bytes()),
-            Some(Err(SheetFault { line, cause })),
-            "{other}"
-        );
+    for (line, other, cause) in &SPOILT {
+        let text = with_line(rt.alloc(), *line, other)?;
+        let fault = SheetFault {
+            line: *line,
+            cause: *cause,
+        };
+        assert_eq!(rt; told(text.as_bytes()), Some(Err(fault)), "{other}");
     }
     Ok(())
 }
 
 #[test]
 fn texts_that_end_early(rt: HostRuntime) -> Result<(), Fail> {
-    for (bytes, fault) in CUT {
-        let found = match fault {
+    for (bytes, fault) in &CUT {
+        let found = match *fault {
             Some((line, cause)) => Err(SheetFault { line, cause }),
             None => Ok(()),
         };
-        if let Some((part, _)) = SHEET.as_bytes().split_at_checked(bytes) {
+        if let Some((part, _)) = SHEET.as_bytes().split_at_checked(*bytes) {
             assert_eq!(rt; told(part), Some(found), "{bytes}");
         }
     }
@@ -177,8 +177,8 @@ fn texts_that_end_early(rt: HostRuntime) -> Result<(), Fail> {
 fn groups_of_a_sheet(rt: HostRuntime) -> Result<(), Fail> {
     match SheetGroups::of(SHEET.as_bytes()) {
         Ok(mut groups) => {
-            for found in GROUPS {
-                assert_eq!(rt; next_told(&mut groups), Some(found));
+            for found in &GROUPS {
+                assert_eq!(rt; next_told(&mut groups), Some(*found));
             }
             assert_eq!(rt; next_told(&mut groups), None);
         }

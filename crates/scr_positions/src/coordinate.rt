@@ -14,9 +14,10 @@ pub trait Coord {
     /// What it shows.
     ghost coordinate: { Self → Coordinate };
 
-    /// How many positions there are.
+    /// How many positions there are. Turns lead from positions to positions.
     fn count(&self) -> u32
-        ensures { result ≡ (coordinate self.now).count };
+        ensures count { result ≡ (coordinate self.now).count }
+        ensures stays_below { StaysBelow (coordinate self.now) };
 
     /// How many turns there are.
     fn turns(&self) -> u32
@@ -27,7 +28,8 @@ pub trait Coord {
     fn after(&self, position: u32, turn: u32) -> Option<u32>
         requires position { position < (coordinate self.now).count }
         requires turn { turn < (coordinate self.now).turns }
-        ensures { result ≡ (coordinate self.now).after position turn };
+        ensures leads { result ≡ (coordinate self.now).after position turn }
+        ensures below { IfSome result (λ next. next < (coordinate self.now).count) };
 
     /// The values that a turn, below `turns`, leads to from positions one after another, `start` first: `NOWHERE` where
     /// it is barred. There are so many positions from `start` on. `values` has one for each position.
@@ -37,8 +39,7 @@ pub trait Coord {
         requires turn { turn < (coordinate self.now).turns }
         ensures { AreSeen (coordinate self.now) values.now start turn into.new }
     {
-        // tells that turns lead to positions, which are numbers of 32 bits
-        self.stays_below();
+        // tells that positions are numbers of 32 bits
         let _count = self.count();
         for k in 0..into.len() {
             into[k] = match self.after(start + k as u32, turn) {
@@ -66,10 +67,6 @@ pub trait Coord {
         }
         None
     }
-
-    /// Does nothing: turns lead from positions to positions.
-    fn stays_below(&self)
-        ensures { StaysBelow (coordinate self.now) };
 }
 
 // A coordinate that is borrowed is one.
@@ -104,10 +101,5 @@ impl<C: Coord> Coord for &C {
     #[inline]
     fn next_goal(&self, from: u32) -> Option<u32> {
         (**self).next_goal(from)
-    }
-
-    #[inline]
-    fn stays_below(&self) {
-        (**self).stays_below();
     }
 }

@@ -48,9 +48,8 @@ impl MoveTable {
         let count = coord.count();
         let turns = coord.turns();
         let mut targets = Vec::with_capacity(alloc, turns as usize * count as usize)?;
-        coord.stays_below();
         for turn in 0..turns {
-            push_turn(&mut targets, coord, turn)?;
+            push_targets(&mut targets, coord, turn)?;
         }
         let goals = goals_of(alloc, coord)?;
         Ok(MoveTable {
@@ -77,7 +76,7 @@ impl MoveTable {
 }
 
 /// Adds the targets of a turn from each position.
-fn push_turn<C: Coord>(targets: &mut Vec<u32>, coord: &C, turn: u32) -> Result<(), AllocError>
+fn push_targets<C: Coord>(targets: &mut Vec<u32>, coord: &C, turn: u32) -> Result<(), AllocError>
     requires { turn < (C.coordinate coord.now).turns }
     ensures { let c = C.coordinate coord.now in
         OnOk result (targets.new.items ≡ targets.old.items ++ moves_row c turn c.count) }
@@ -141,7 +140,4 @@ impl Coord for MoveTable {
     fn is_goal(&self, position: u32) -> bool {
         self.goals[position as usize]
     }
-
-    #[inline]
-    fn stays_below(&self) {}
 }

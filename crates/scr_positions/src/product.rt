@@ -44,7 +44,8 @@ impl<L: Coord, H: Coord> Product<L, H> {
     fn side_by_side(&self, low: Option<u32>, high: Option<u32>) -> Option<u32>
         requires low { IfSome low (λ a. a < (L.coordinate self.now.low).count) }
         requires high { IfSome high (λ b. b < (H.coordinate self.now.high).count) }
-        ensures { result ≡ side_by_side (L.coordinate self.now.low).count low high }
+        ensures both { result ≡ side_by_side (L.coordinate self.now.low).count low high }
+        ensures below { IfSome result (λ both. both < (L.coordinate self.now.low).count * (H.coordinate self.now.high).count) }
     {
         let low = low?;
         let high = high?;
@@ -71,7 +72,6 @@ impl<L: Coord, H: Coord> Product<L, H> {
         let first = high * low_count;
         let from = start.max(first);
         let to = (first + low_count).min(start + into.len() as u32);
-        self.high.stays_below();
         let part = &mut into[(from - start) as usize..(to - start) as usize];
         self.look_in_row(
             values,
@@ -103,7 +103,6 @@ impl<L: Coord, H: Coord> Product<L, H> {
             Some(high) => {
                 let low_count = self.low.count() as usize;
                 let first = high as usize * low_count;
-                self.low.stays_below();
                 self.low
                     .look(&values[first..first + low_count], start, turn, into);
             }
@@ -182,8 +181,6 @@ impl<L: Coord, H: Coord> Coord for Product<L, H> {
     #[inline]
     fn after(&self, position: u32, turn: u32) -> Option<u32> {
         let low_count = self.low.count();
-        self.low.stays_below();
-        self.high.stays_below();
         let low = self.low.after(position % low_count, turn);
         let high = self.high.after(position / low_count, turn);
         self.side_by_side(low, high)
@@ -217,11 +214,5 @@ impl<L: Coord, H: Coord> Coord for Product<L, H> {
             Some(goal) => Some(goal),
             None => self.goal_from_row(from / self.low.count() + 1),
         }
-    }
-
-    #[inline]
-    fn stays_below(&self) {
-        self.low.stays_below();
-        self.high.stays_below();
     }
 }

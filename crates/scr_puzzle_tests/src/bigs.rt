@@ -31,7 +31,7 @@ const CUBE_777: &str =
     3Uw 3Bw 3Dw R' Fw' Dw Lw F Lw2 3Lw' Fw' 3Uw D' Dw2 Rw' 3Uw2 3Fw' 3Lw' 3Bw2 Dw 3Fw Lw";
 
 /// For each side, and 0 for the Megaminx: so many attempts a turn, and the scramble.
-const SCRAMBLES: [(u8, u32, &str); 4] = [
+static SCRAMBLES: [(u8, u32, &str); 4] = [
     (0, 1, MEGAMINX),
     (5, 1000, CUBE_555),
     (6, 1000, CUBE_666),
@@ -79,9 +79,9 @@ fn gives_of_stream(side: u8, attempts: u32, wanted: &str) -> bool
 
 #[test]
 fn scrambles_of_a_stream(rt: HostRuntime) {
-    for (side, attempts, wanted) in SCRAMBLES {
-        assert!(rt; attempts <= 1000000);
-        assert!(rt; gives_of_stream(side, attempts, wanted));
+    for (side, attempts, wanted) in &SCRAMBLES {
+        assert!(rt; *attempts <= 1000000);
+        assert!(rt; gives_of_stream(*side, *attempts, wanted));
     }
 }
 

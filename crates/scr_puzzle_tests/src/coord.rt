@@ -23,7 +23,6 @@ fn order_of<C: Coord>(coord: &C, start: u32, first: u32, second: u32) -> Option<
     requires first { first < (C.coordinate coord.now).turns }
     requires second { second < (C.coordinate coord.now).turns }
 {
-    coord.stays_below();
     let mut position = start;
     for made in 0..1000 {
         let between = coord.after(position, first)?;

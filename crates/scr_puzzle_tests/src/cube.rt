@@ -10,43 +10,54 @@ const IN_PLACE: [u8; 8] = [0, 1, 2, 3, 4, 5, 6, 7];
 
 const EDGES_IN_PLACE: [u8; 12] = [0, 1, 2, 3, 4, 5, 6, 7, 8, 9, 10, 11];
 
+const LAST_TWISTS: [u8; 8] = [2, 2, 2, 2, 2, 2, 2, 1];
+
+const LAST_EXCHANGED: [u8; 8] = [0, 1, 2, 3, 4, 5, 7, 6];
+
+const EDGES_EXCHANGED: [u8; 12] = [0, 1, 2, 3, 4, 5, 6, 7, 8, 9, 11, 10];
+
+const BACKWARDS: [u8; 8] = [7, 6, 5, 4, 3, 2, 1, 0];
+
+const EDGES_BACKWARDS: [u8; 12] = [11, 10, 9, 8, 7, 6, 5, 4, 3, 2, 1, 0];
+
+/// Numbers of cubes, with their corners, twists, edges and flips.
+static CUBES: [(u128, [u8; 8], [u8; 8], [u8; 12], [u8; 12]); 5] = [
+    (0, IN_PLACE, [0; 8], EDGES_IN_PLACE, [0; 12]),
+    (2047, IN_PLACE, [0; 8], EDGES_IN_PLACE, [1; 12]),
+    (4478975, IN_PLACE, LAST_TWISTS, EDGES_IN_PLACE, [1; 12]),
+    (4478976, LAST_EXCHANGED, [0; 8], EDGES_EXCHANGED, [0; 12]),
+    (
+        43252003274489855999,
+        BACKWARDS,
+        LAST_TWISTS,
+        EDGES_BACKWARDS,
+        [1; 12],
+    ),
+];
+
 #[test]
 fn known_cubes(rt: HostRuntime) {
-    let last_twists = [2, 2, 2, 2, 2, 2, 2, 1];
-    let last_exchanged = [0, 1, 2, 3, 4, 5, 7, 6];
-    let edges_exchanged = [0, 1, 2, 3, 4, 5, 6, 7, 8, 9, 11, 10];
-    let backwards = [7, 6, 5, 4, 3, 2, 1, 0];
-    let edges_backwards = [11, 10, 9, 8, 7, 6, 5, 4, 3, 2, 1, 0];
-    for (number, corners, twists, edges, flips) in [
-        (0, IN_PLACE, [0; 8], EDGES_IN_PLACE, [0; 12]),
-        (2047, IN_PLACE, [0; 8], EDGES_IN_PLACE, [1; 12]),
-        (4478975, IN_PLACE, last_twists, EDGES_IN_PLACE, [1; 12]),
-        (4478976, last_exchanged, [0; 8], edges_exchanged, [0; 12]),
-        (
-            43252003274489855999,
-            backwards,
-            last_twists,
-            edges_backwards,
-            [1; 12],
-        ),
-    ] {
-        assert!(rt; number < CubeNumbers.count());
-        let cube = Cube::from_lists(corners, twists, edges, flips);
-        is_number(&rt, &CubeNumbers, number, cube);
+    for (number, corners, twists, edges, flips) in &CUBES {
+        assert!(rt; *number < CubeNumbers.count());
+        let cube = Cube::from_lists(*corners, *twists, *edges, *flips);
+        is_number(&rt, &CubeNumbers, *number, cube);
     }
     assert!(rt; CubeNumbers.count() == 43252003274489856000);
 }
 
+/// Numbers of 2x2x2s, with their corners and twists.
+static CORNERS: [(u128, [u8; 7], [u8; 7]); 3] = [
+    (0, [0, 1, 2, 3, 4, 5, 6], [0; 7]),
+    (3015702, [5, 4, 2, 1, 3, 0, 6], [0, 0, 2, 2, 0, 2, 0]),
+    (3674159, [6, 5, 4, 3, 2, 1, 0], [2, 2, 2, 2, 2, 2, 0]),
+];
+
 #[test]
 fn known_corners(rt: HostRuntime) {
-    for (number, corners, twists) in [
-        (0, [0, 1, 2, 3, 4, 5, 6], [0; 7]),
-        (3015702, [5, 4, 2, 1, 3, 0, 6], [0, 0, 2, 2, 0, 2, 0]),
-        (3674159, [6, 5, 4, 3, 2, 1, 0], [2, 2, 2, 2, 2, 2, 0]),
-    ] {
-        assert!(rt; number < Numbers222.count());
-        let state = Corners222::from_lists(corners, twists);
-        is_number(&rt, &Numbers222, number, state);
+    for (number, corners, twists) in &CORNERS {
+        assert!(rt; *number < Numbers222.count());
+        let state = Corners222::from_lists(*corners, *twists);
+        is_number(&rt, &Numbers222, *number, state);
     }
     let up = Corners222::solved().turn(0, 1);
     is_number(&rt, &Numbers222, 1574640, Some(up));

@@ -11,33 +11,35 @@ use std::test::Fail;
 /// A known word to the superflip, of 20 turns.
 const SUPERFLIP: &str = "U R2 F B R B2 R U2 L B2 R U' D' R2 F R' L B2 U2 F2";
 
-// Words that lead to states from solved, how many tries are made, and how many turns the scrambles of these states may
-// have. Two frames leave nothing between them, so that their state has them alone as its scramble; a turn that solves a
-// cube alone stands between them as it is, beside a turn of the same face too.
+/// Words that lead to states from solved, how many tries are made, and how many turns the scrambles of these states may
+/// have. Two frames leave nothing between them, so that their state has them alone as its scramble; a turn that solves a
+/// cube alone stands between them as it is, beside a turn of the same face too.
+static SCRAMBLES: [(&str, u32, usize); 9] = [
+    ("R' U' F R' U' F", 2000, 6),
+    ("R' U' F U R' U' F", 2000, 7),
+    ("R' U' F F2 R' U' F", 2000, 7),
+    ("R' U' F R2 R' U' F", 2000, 7),
+    ("", 2000, 28),
+    ("", 0, 58),
+    ("F' U R F' U R", 2000, 28),
+    ("R U R' F' D2 B L2 U' F R2 D' L B2 U F2", 0, 58),
+    (SUPERFLIP, 2000, 58),
+];
+
 #[test]
 fn scrambles(rt: HostRuntime) -> Result<(), Fail> {
     let prune = PruneTables::build(&rt, rt.alloc(), 1)?;
     let stages = StageTables::build(&rt, rt.alloc(), 1)?;
-    for (word, tries, most) in [
-        ("R' U' F R' U' F", 2000, 6),
-        ("R' U' F U R' U' F", 2000, 7),
-        ("R' U' F F2 R' U' F", 2000, 7),
-        ("R' U' F R2 R' U' F", 2000, 7),
-        ("", 2000, 28),
-        ("", 0, 58),
-        ("F' U R F' U R", 2000, 28),
-        ("R U R' F' D2 B L2 U' F R2 D' L B2 U F2", 0, 58),
-        (SUPERFLIP, 2000, 58),
-    ] {
+    for (word, tries, most) in &SCRAMBLES {
         let cube = read::cube(&rt, word);
-        let scramble = scramble_333fm(&prune, &stages, &cube, tries);
+        let scramble = scramble_333fm(&prune, &stages, &cube, *tries);
         let text = print(&scramble);
         assert!(rt; text.as_str().starts_with("R' U' F") && text.as_str().ends_with("R' U' F"));
-        assert!(rt; scramble.turns().len() >= 6 && scramble.turns().len() <= most);
+        assert!(rt; scramble.turns().len() >= 6 && scramble.turns().len() <= *most);
         assert!(rt; Cube::solved().play(&scramble) == Some(cube));
         assert!(rt; scramble.event() == Event::Fm333);
-        if most < 28 {
-            assert_eq!(rt; text.as_str(), word);
+        if *most < 28 {
+            assert_eq!(rt; text.as_str(), *word);
         }
     }
     Ok(())
@@ -54,16 +56,19 @@ fn drawn(rt: HostRuntime) {
     assert!(rt; !drawn.needs_at_least(&Cube::solved().turned(7), 2));
 }
 
+/// Two words, and a word that leads to what the first and then the second lead to.
+static JOINED: [(&str, &str, &str); 5] = [
+    ("", "", ""),
+    ("R", "U", "R U"),
+    ("R U R' F'", "D2 B L2 U' F", "R U R' F' D2 B L2 U' F"),
+    (SUPERFLIP, SUPERFLIP, ""),
+    ("R' U' F", "F' U R", ""),
+];
+
 // One cube and then another is what one word and then the other lead to, and not the other way round.
 #[test]
 fn joined(rt: HostRuntime) {
-    for (first, second, both) in [
-        ("", "", ""),
-        ("R", "U", "R U"),
-        ("R U R' F'", "D2 B L2 U' F", "R U R' F' D2 B L2 U' F"),
-        (SUPERFLIP, SUPERFLIP, ""),
-        ("R' U' F", "F' U R", ""),
-    ] {
+    for (first, second, both) in &JOINED {
         let cube = read::cube(&rt, first);
         let next = read::cube(&rt, second);
         assert!(rt;
@@ -76,16 +81,19 @@ fn joined(rt: HostRuntime) {
     assert!(rt; right.then(&up) != up.then(&right));
 }
 
+/// Words, and the words that take them back.
+static INVERTED: [(&str, &str); 5] = [
+    ("", ""),
+    ("R", "R'"),
+    ("R U F", "F' U' R'"),
+    ("R U R' F' D2 B L2 U' F", "F' U L2 B' D2 F R U' R'"),
+    (SUPERFLIP, SUPERFLIP),
+];
+
 // A cube's inverse is what the word taken back leads to.
 #[test]
 fn inverted(rt: HostRuntime) {
-    for (word, back) in [
-        ("", ""),
-        ("R", "R'"),
-        ("R U F", "F' U' R'"),
-        ("R U R' F' D2 B L2 U' F", "F' U L2 B' D2 F R U' R'"),
-        (SUPERFLIP, SUPERFLIP),
-    ] {
+    for (word, back) in &INVERTED {
         let cube = read::cube(&rt, word);
         let inverse = cube.inverse();
         assert!(rt; inverse == read::cube(&rt, back), "{word}");

@@ -26,24 +26,23 @@ fn write_after<const SIDE: usize>(rt: &impl Abort, out: &mut MemSink, scramble: 
     assert!(rt; write_net(out, &after::<SIDE>(rt, scramble)).is_ok());
 }
 
-#[test]
-fn known_nets(rt: HostRuntime) -> Result<(), Fail> {
-    for (event, turns, net) in [
-        (
-            Event::C222,
-            "U",
-            "   UU
+/// Events, turns, and the net of a solved cube after them.
+static NETS: [(Event, &str, &str); 8] = [
+    (
+        Event::C222,
+        "U",
+        "   UU
    UU
 FF RR BB LL
 LL FF RR BB
    DD
    DD
 ",
-        ),
-        (
-            Event::C333,
-            "R",
-            "    UUF
+    ),
+    (
+        Event::C333,
+        "R",
+        "    UUF
     UUF
     UUF
 LLL FFD RRR UBB
@@ -53,11 +52,11 @@ LLL FFD RRR UBB
     DDB
     DDB
 ",
-        ),
-        (
-            Event::C333,
-            "U R2 F B R B2 R U2 L B2 R U' D' R2 F R' L B2 U2 F2",
-            "    UBU
+    ),
+    (
+        Event::C333,
+        "U R2 F B R B2 R U2 L B2 R U' D' R2 F R' L B2 U2 F2",
+        "    UBU
     LUR
     UFU
 LUL FUF RUR BUB
@@ -67,11 +66,11 @@ LDL FDF RDR BDB
     LDR
     DBD
 ",
-        ),
-        (
-            Event::C333,
-            "F2 D' B R2 U L' F D2 R B' U2 L2 F' D R'",
-            "    DFD
+    ),
+    (
+        Event::C333,
+        "F2 D' B R2 U L' F D2 R B' U2 L2 F' D R'",
+        "    DFD
     UUL
     RUL
 LRD BBU BUR FUF
@@ -81,22 +80,22 @@ FRF UDB LLR ULU
     BDB
     LFB
 ",
-        ),
-        (
-            Event::C222,
-            "R U2 F' R' U F2 R2 U'",
-            "   FF
+    ),
+    (
+        Event::C222,
+        "R U2 F' R' U F2 R2 U'",
+        "   FF
    LD
 LU BB RL DU
 LB RR DF UB
    UF
    DR
 ",
-        ),
-        (
-            Event::C555,
-            "Dw Rw2 Uw' B L' Fw Bw2 R D' Lw F2 Uw B' Rw' L2 Dw2",
-            "      LLBBB
+    ),
+    (
+        Event::C555,
+        "Dw Rw2 Uw' B L' Fw Bw2 R D' Lw F2 Uw B' Rw' L2 Dw2",
+        "      LLBBB
       LRRRU
       LBURD
       BBURD
@@ -112,11 +111,11 @@ BBLRD RRUFF DBBLB UDDLD
       LUULD
       LUBBL
 ",
-        ),
-        (
-            Event::C666,
-            "3Rw' Dw2 3Uw B2 3Fw2 Lw'",
-            "       BBDFFF
+    ),
+    (
+        Event::C666,
+        "3Rw' Dw2 3Uw B2 3Fw2 Lw'",
+        "       BBDFFF
        BBUUUU
        UUUUUU
        RRDFFF
@@ -135,11 +134,11 @@ LLRBBB UURRRR UUULLF LLLLDD
        FFFDDD
        FFUUUU
 ",
-        ),
-        (
-            Event::C777,
-            "3Dw2 3Bw' 3Lw Rw U' 3Fw",
-            "        FFFFBBB
+    ),
+    (
+        Event::C777,
+        "3Dw2 3Bw' 3Lw Rw U' 3Fw",
+        "        FFFFBBB
         FFFFBBB
         LLLUUUU
         LLLUUUU
@@ -161,11 +160,15 @@ RRRLBBB RRRDDDD FFFUUUU LLBBDDD
         BBBRRBB
         BBBRRBB
 ",
-        ),
-    ] {
+    ),
+];
+
+#[test]
+fn known_nets(rt: HostRuntime) -> Result<(), Fail> {
+    for (event, turns, net) in &NETS {
         let mut out = MemSink::new(rt.alloc(), 4096, 4096, Vec::new(rt.alloc()))?;
-        let scramble = read::scramble(&rt, event, turns);
-        match event {
+        let scramble = read::scramble(&rt, *event, turns);
+        match *event {
             Event::C222 => write_after::<2>(&rt, &mut out, &scramble),
             Event::C333 => write_after::<3>(&rt, &mut out, &scramble),
             Event::C555 => write_after::<5>(&rt, &mut out, &scramble),

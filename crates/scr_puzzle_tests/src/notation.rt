@@ -27,67 +27,71 @@ fn refused(rt: &impl Abort, event: Event, text: &str, fault: NotationFault) {
     }
 }
 
+/// Texts of events, and how many turns each has.
+static READ: [(Event, &str, usize); 12] = [
+    (Event::C333, "", 0),
+    (Event::C333, "R U2 F'", 3),
+    (Event::C222, "R U2 F'", 3),
+    (Event::C555, "Dw Rw2 Uw' B L' Fw", 6),
+    (Event::Bf333, "D' L2 B Fw' Uw2", 5),
+    (Event::C666, "3Rw' Dw2 3Uw B2 3Fw2 Lw'", 6),
+    (Event::C777, "3Dw2 3Bw' 3Lw Rw U' 3Fw", 6),
+    (Event::Clock, "UR6+ DL1- y2 ALL5- U0+", 5),
+    (
+        Event::Minx,
+        "R-- D++ R++ D-- R++ D++ R++ D-- R-- D-- U'",
+        11,
+    ),
+    (Event::Pyram, "U L' R B' u' l r b'", 8),
+    (Event::Skewb, "B U", 2),
+    (Event::Sq1, "(3,0) / (-3,6) / (0,-5) (-1,0)", 6),
+];
+
+/// Texts that are refused, and the place at which each is.
+static WRONG: [(Event, &str, u32); 34] = [
+    (Event::C333, " U", 0),
+    (Event::C333, "u", 0),
+    (Event::C333, "U2'", 0),
+    (Event::C333, "Uw", 0),
+    (Event::Bf333, "Dw", 0),
+    (Event::Bf333, "U Lw2", 2),
+    (Event::Bf333, "3Rw", 0),
+    (Event::C333, "U\tR", 0),
+    (Event::C333, "R3", 0),
+    (Event::C333, "y2", 0),
+    (Event::C333, " ", 0),
+    (Event::C333, "R  U", 2),
+    (Event::C333, "U ", 2),
+    (Event::C333, "U2 R' x", 6),
+    (Event::C222, "D", 0),
+    (Event::C555, "3Uw", 0),
+    (Event::C666, "3Dw", 0),
+    (Event::C666, "Dw 3Dw", 3),
+    (Event::C777, "4Uw", 0),
+    (Event::C777, "3U", 0),
+    (Event::Clock, "UR6-", 0),
+    (Event::Clock, "UR0-", 0),
+    (Event::Clock, "UR7+", 0),
+    (Event::Clock, "UR06+", 0),
+    (Event::Clock, "Y2", 0),
+    (Event::Minx, "R+", 0),
+    (Event::Minx, "U++", 0),
+    (Event::Pyram, "U2", 0),
+    (Event::Skewb, "U u", 2),
+    (Event::Sq1, "(0,0)", 0),
+    (Event::Sq1, "(-6,0)", 0),
+    (Event::Sq1, "( 1,0)", 0),
+    (Event::Sq1, "(+1,0)", 0),
+    (Event::Sq1, "(01,0)", 0),
+];
+
 #[test]
 fn known_texts(rt: HostRuntime) {
-    let read = [
-        (Event::C333, "", 0),
-        (Event::C333, "R U2 F'", 3),
-        (Event::C222, "R U2 F'", 3),
-        (Event::C555, "Dw Rw2 Uw' B L' Fw", 6),
-        (Event::Bf333, "D' L2 B Fw' Uw2", 5),
-        (Event::C666, "3Rw' Dw2 3Uw B2 3Fw2 Lw'", 6),
-        (Event::C777, "3Dw2 3Bw' 3Lw Rw U' 3Fw", 6),
-        (Event::Clock, "UR6+ DL1- y2 ALL5- U0+", 5),
-        (
-            Event::Minx,
-            "R-- D++ R++ D-- R++ D++ R++ D-- R-- D-- U'",
-            11,
-        ),
-        (Event::Pyram, "U L' R B' u' l r b'", 8),
-        (Event::Skewb, "B U", 2),
-        (Event::Sq1, "(3,0) / (-3,6) / (0,-5) (-1,0)", 6),
-    ];
-    for (event, text, turns) in read {
-        reads(&rt, event, text, turns);
+    for (event, text, turns) in &READ {
+        reads(&rt, *event, text, *turns);
     }
-    let wrong = [
-        (Event::C333, " U", 0),
-        (Event::C333, "u", 0),
-        (Event::C333, "U2'", 0),
-        (Event::C333, "Uw", 0),
-        (Event::Bf333, "Dw", 0),
-        (Event::Bf333, "U Lw2", 2),
-        (Event::Bf333, "3Rw", 0),
-        (Event::C333, "U\tR", 0),
-        (Event::C333, "R3", 0),
-        (Event::C333, "y2", 0),
-        (Event::C333, " ", 0),
-        (Event::C333, "R  U", 2),
-        (Event::C333, "U ", 2),
-        (Event::C333, "U2 R' x", 6),
-        (Event::C222, "D", 0),
-        (Event::C555, "3Uw", 0),
-        (Event::C666, "3Dw", 0),
-        (Event::C666, "Dw 3Dw", 3),
-        (Event::C777, "4Uw", 0),
-        (Event::C777, "3U", 0),
-        (Event::Clock, "UR6-", 0),
-        (Event::Clock, "UR0-", 0),
-        (Event::Clock, "UR7+", 0),
-        (Event::Clock, "UR06+", 0),
-        (Event::Clock, "Y2", 0),
-        (Event::Minx, "R+", 0),
-        (Event::Minx, "U++", 0),
-        (Event::Pyram, "U2", 0),
-        (Event::Skewb, "U u", 2),
-        (Event::Sq1, "(0,0)", 0),
-        (Event::Sq1, "(-6,0)", 0),
-        (Event::Sq1, "( 1,0)", 0),
-        (Event::Sq1, "(+1,0)", 0),
-        (Event::Sq1, "(01,0)", 0),
-    ];
-    for (event, text, place) in wrong {
-        refused(&rt, event, text, NotationFault::Spelling { place });
+    for (event, text, place) in &WRONG {
+        refused(&rt, *event, text, NotationFault::Spelling { place: *place });
     }
 }
 
@@ -143,18 +147,24 @@ fn tidied(rt: &impl Abort, event: Event, text: &str, tidy_text: &str)
     assert_eq!(rt; print(&tidy(&scramble)).as_str(), tidy_text);
 }
 
+/// Words of cubes, and what they are tidied to.
+static TIDIED: [(&str, &str); 3] = [("U U2 U", ""), ("R U U' R", "R2"), ("U U2", "U'")];
+
+/// Words of a Square-1, and what they are tidied to.
+static TIDIED_SQUARES: [(&str, &str); 3] = [
+    ("(3,0) (-3,6)", "(0,6)"),
+    ("(1,0) / / (-1,0)", ""),
+    ("/ (4,-5) (3,-2) /", "/ (-5,5) /"),
+];
+
 #[test]
 fn known_turnings(rt: HostRuntime) {
-    for (text, tidy_text) in [("U U2 U", ""), ("R U U' R", "R2"), ("U U2", "U'")] {
+    for (text, tidy_text) in &TIDIED {
         tidied(&rt, Event::C333, text, tidy_text);
         tidied(&rt, Event::C222, text, tidy_text);
     }
     tidied(&rt, Event::C333, "R L R'", "R L R'");
-    for (text, tidy_text) in [
-        ("(3,0) (-3,6)", "(0,6)"),
-        ("(1,0) / / (-1,0)", ""),
-        ("/ (4,-5) (3,-2) /", "/ (-5,5) /"),
-    ] {
+    for (text, tidy_text) in &TIDIED_SQUARES {
         tidied(&rt, Event::Sq1, text, tidy_text);
     }
     taken_back(&rt, Event::C333, "R L2 U'", "U L2 R'");

@@ -8,18 +8,22 @@ use std::test::Fail;
 
 const IN_PLACE: [u8; 6] = [0, 1, 2, 3, 4, 5];
 
+const LAST: [u8; 6] = [5, 4, 3, 2, 0, 1];
+
+/// Numbers of states, with their edges, flips, axial pieces and tips.
+static STATES: [(u128, [u8; 6], [u8; 6], [u8; 4], [u8; 4]); 4] = [
+    (0, IN_PLACE, [0; 6], [0; 4], [0; 4]),
+    (55, IN_PLACE, [0; 6], [0; 4], [1, 0, 0, 2]),
+    (19683, IN_PLACE, [1, 1, 0, 0, 0, 0], [0; 4], [0; 4]),
+    (75582719, LAST, [1; 6], [2; 4], [2; 4]),
+];
+
 #[test]
 fn known_states(rt: HostRuntime) {
-    let last = [5, 4, 3, 2, 0, 1];
-    for (number, edges, flips, axials, tips) in [
-        (0, IN_PLACE, [0; 6], [0; 4], [0; 4]),
-        (55, IN_PLACE, [0; 6], [0; 4], [1, 0, 0, 2]),
-        (19683, IN_PLACE, [1, 1, 0, 0, 0, 0], [0; 4], [0; 4]),
-        (75582719, last, [1; 6], [2; 4], [2; 4]),
-    ] {
-        assert!(rt; number < PyramNumbers.count());
-        let state = Pyraminx::from_lists(edges, flips, axials, tips);
-        is_number(&rt, &PyramNumbers, number, state);
+    for (number, edges, flips, axials, tips) in &STATES {
+        assert!(rt; *number < PyramNumbers.count());
+        let state = Pyraminx::from_lists(*edges, *flips, *axials, *tips);
+        is_number(&rt, &PyramNumbers, *number, state);
     }
     let up = Pyraminx::solved().turn(0, 1);
     is_number(&rt, &PyramNumbers, 15116625, Some(up));

@@ -8,27 +8,31 @@ use std::test::Fail;
 
 const IN_PLACE: [u8; 6] = [0, 1, 2, 3, 4, 5];
 
+/// Numbers of states, with their four corners, their three, each list with its twists, and their centres; the second is
+/// after B and U.
+static STATES: [(u128, ([u8; 4], [u8; 4]), ([u8; 3], [u8; 3]), [u8; 6]); 3] = [
+    (0, ([0, 1, 2, 3], [0; 4]), ([0, 1, 2], [0; 3]), IN_PLACE),
+    (
+        1718795,
+        ([1, 3, 2, 0], [2, 0, 0, 2]),
+        ([2, 0, 1], [0, 2, 2]),
+        [3, 1, 2, 4, 0, 5],
+    ),
+    (
+        3149279,
+        ([3, 2, 1, 0], [2; 4]),
+        ([1, 2, 0], [2; 3]),
+        [5, 4, 3, 2, 0, 1],
+    ),
+];
+
 #[test]
 fn known_skewbs(rt: HostRuntime) -> Result<(), Fail> {
     let solved = Skewb::solved();
-    let after_b_u = (
-        [1, 3, 2, 0],
-        [2, 0, 0, 2],
-        [2, 0, 1],
-        [0, 2, 2],
-        [3, 1, 2, 4, 0, 5],
-    );
-    for (number, (four, four_twists, three, three_twists, centres)) in [
-        (0, ([0, 1, 2, 3], [0; 4], [0, 1, 2], [0; 3], IN_PLACE)),
-        (1718795, after_b_u),
-        (
-            3149279,
-            ([3, 2, 1, 0], [2; 4], [1, 2, 0], [2; 3], [5, 4, 3, 2, 0, 1]),
-        ),
-    ] {
-        assert!(rt; number < SkewbNumbers.count());
-        let skewb = Skewb::from_lists(four, four_twists, three, three_twists, centres);
-        is_number(&rt, &SkewbNumbers, number, skewb);
+    for (number, (four, four_twists), (three, three_twists), centres) in &STATES {
+        assert!(rt; *number < SkewbNumbers.count());
+        let skewb = Skewb::from_lists(*four, *four_twists, *three, *three_twists, *centres);
+        is_number(&rt, &SkewbNumbers, *number, skewb);
     }
     let up = solved.turn(0, 1);
     let four = (up.four(), up.four_twists());

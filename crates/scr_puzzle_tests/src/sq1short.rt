@@ -9,7 +9,7 @@ use std::test::Fail;
 /// Numbers of states, how many words are looked at, and how many twists the scramble may have: solved; solved but for
 /// the equator; solved but for the edges 6 and 7, which the first word alone solves with 24. Where the scramble is
 /// known, its text.
-const STATES: [(u128, u32, usize, Option<&str>); 7] = [
+static STATES: [(u128, u32, usize, Option<&str>); 7] = [
     (3_810_646_425_600, 1, 0, Some("")),
     (3_810_646_425_600, 2, 0, Some("")),
     (3_810_646_425_600, 1000, 0, Some("")),
@@ -22,18 +22,18 @@ const STATES: [(u128, u32, usize, Option<&str>); 7] = [
 #[test]
 fn scrambles(rt: HostRuntime) -> Result<(), Fail> {
     let tables = Sq1Tables::build(&rt, rt.alloc(), 2)?;
-    for (number, short, most, text) in STATES {
-        let state = Sq1Numbers.state_at(number);
-        let scramble = scramble_sq1_short(&tables, &state, short);
+    for (number, short, most, text) in &STATES {
+        let state = Sq1Numbers.state_at(*number);
+        let scramble = scramble_sq1_short(&tables, &state, *short);
         let turns = scramble.turns();
         let twists = turns
             .iter()
             .filter(|turn| matches!(turn, Turn::Twist))
             .count();
-        assert!(rt; twists <= most);
+        assert!(rt; twists <= *most);
         assert!(rt; Sq1::solved().play(&scramble) == Some(state));
         if let Some(text) = text {
-            assert_eq!(rt; print(&scramble).as_str(), text);
+            assert_eq!(rt; print(&scramble).as_str(), *text);
         }
     }
     Ok(())

@@ -8,7 +8,7 @@ use scr_table::{TableName, TableSet};
 use std::test::Fail;
 
 /// Numbers of states, and their scrambles: solved; solved but for the equator; solved but for the edges 6 and 7.
-const STATES: [(u128, &str); 3] = [
+static STATES: [(u128, &str); 3] = [
     (3_810_646_425_600, ""),
     (3_810_646_425_601, "(6,0) / (6,0) / (6,0) /"),
     (
@@ -19,14 +19,14 @@ const STATES: [(u128, &str); 3] = [
 
 /// Numbers of states, and how many turns each needs: solved; solved but for the equator, which needs
 /// more than any minimum asks for.
-const MINIMA: [(u128, u32); 2] = [(3_810_646_425_600, 0), (3_810_646_425_601, 4)];
+static MINIMA: [(u128, u32); 2] = [(3_810_646_425_600, 0), (3_810_646_425_601, 4)];
 
 #[test]
 fn minima(rt: HostRuntime) -> Result<(), Fail> {
-    for (number, needed) in MINIMA {
-        let state = Sq1Numbers.state_at(number);
+    for (number, needed) in &MINIMA {
+        let state = Sq1Numbers.state_at(*number);
         for least in 0..5 {
-            assert_eq!(rt; needs_sq1(&state, least), least <= needed);
+            assert_eq!(rt; needs_sq1(&state, least), least <= *needed);
         }
     }
     Ok(())
@@ -38,9 +38,9 @@ fn tables_and_states(rt: HostRuntime) -> Result<(), Fail> {
     assert!(rt;
         tables.table(TableName::Square).is_some() && tables.table(TableName::Corners).is_none()
     );
-    for (number, scramble) in STATES {
-        let state = Sq1Numbers.state_at(number);
-        assert_eq!(rt; print(&scramble_sq1(&tables, &state)).as_str(), scramble);
+    for (number, scramble) in &STATES {
+        let state = Sq1Numbers.state_at(*number);
+        assert_eq!(rt; print(&scramble_sq1(&tables, &state)).as_str(), *scramble);
     }
     Ok(())
 }

@@ -82,20 +82,23 @@ fn are_known(rt: &impl Abort, prune: &PruneTables, stages: &StageTables) {
     }
 }
 
-/// Held cubes with these numbers have scrambles that begin and end so, and lead to them.
+/// Numbers of held cubes, how many tries are made, and how the scrambles of these cubes begin and end.
+static HELD_CUBES: [(u128, u32, &str, &str); 7] = [
+    (0, 2000, "", ""),
+    (1, 2000, "L' Rw", "L' Rw"),
+    (6, 2000, "D' Uw", "D' Uw"),
+    (7, 2000, "", " Rw Uw"),
+    (7, 0, "", " Rw Uw"),
+    (49151, 2000, "", " Fw' Uw'"),
+    (1_038_048_078_587_756_543_999, 2000, "", " Fw' Uw'"),
+];
+
+/// The held cubes with the numbers above have scrambles that begin and end so, and lead to them.
 fn are_held(rt: &impl Abort, prune: &PruneTables, stages: &StageTables) {
-    for (number, tries, begins, ends) in [
-        (0, 2000, "", ""),
-        (1, 2000, "L' Rw", "L' Rw"),
-        (6, 2000, "D' Uw", "D' Uw"),
-        (7, 2000, "", " Rw Uw"),
-        (7, 0, "", " Rw Uw"),
-        (49151, 2000, "", " Fw' Uw'"),
-        (1_038_048_078_587_756_543_999, 2000, "", " Fw' Uw'"),
-    ] {
-        assert!(rt; number < HeldNumbers.count());
-        let state = HeldNumbers.state_at(number);
-        let scramble = scramble_333bf(prune, stages, &state, tries);
+    for (number, tries, begins, ends) in &HELD_CUBES {
+        assert!(rt; *number < HeldNumbers.count());
+        let state = HeldNumbers.state_at(*number);
+        let scramble = scramble_333bf(prune, stages, &state, *tries);
         let text = print(&scramble);
         assert!(rt; text.as_str().starts_with(begins) && text.as_str().ends_with(ends));
         assert!(rt; Held::solved().play(&scramble) == Some(state));

@@ -4,7 +4,7 @@
 //! Each type's `rank` and `unrank` are inverse bijections between its lists and the numbers below its
 //! count: `unrank` gives the list of a number, which is valid and the only one with that number, and `rank` of a valid
 //! list is its number, below the count. What a number means is defined in `scr_combinatorics`, on which alone the crate
-//! stands, and whose laws say that each numbering is one to one and which order it has.
+//! stands; that each numbering is one to one, and which order it has, is stated in `scr_laws`.
 //!
 //! The calls allocate nothing and use no table. The types are thin shells over functions on slices,
 //! which are public where a puzzle numbers lists of its own.

@@ -8,7 +8,6 @@ use Rattle.scr_positions.specs.SearchSpaces.{ShowsSame}
 use Rattle.scr_positions.proofs.ProductLaws.{ShowsSame-product}
 use Rattle.scr_positions.proofs.SearchLaws.{Follows-same}
 use Rattle.scr_table.specs.Lines.{TableLine}
-use Rattle.scr_table.proofs.SameTables.{StaysBelow-same}
 use Rattle.scr_search.specs.declared.outlook.Outlook.{Outlook}
 use Rattle.scr_search.specs.declared.position.Extent.{Extent}
 use Rattle.scr_search.specs.declared.pruning.PruningTable.{PruningTable}
@@ -51,23 +50,23 @@ AreOutlooks-none c distances all none = record { each = λ p o at there. absurd 
     no_outlook (u ∷ us) p o none there = cc
 
 -- those over what shows a coordinate are those over the coordinate
-AreOutlooks-same : (c shown : Coordinate) → StaysBelow shown → ShowsSame c shown
+AreOutlooks-same : (c shown : Coordinate) → StaysBelow c → ShowsSame c shown
     → (distances : List ℕ) (all : List Outlook) → AreOutlooks shown distances all → AreOutlooks c distances all
 AreOutlooks-same c shown below same distances all o = record {
   each = λ p outlook at there. record {
     kept = λ t q left few to here lt.
         (o.each p outlook (subst (λ n. p < n) (sym same.count) at) there).kept t q left few
-        ((Follows-same c shown (StaysBelow-same c shown below same) same).turned p t at ∙ ap (option_map (λ n. n)) to) here lt;
+        ((Follows-same c shown below same).turned p t at ∙ ap (option_map (λ n. n)) to) here lt;
   };
 }
 
 -- Those that are found over what shows a line's coordinate are those of its table, by either name of what the line is
 -- made of.
 pub IfOk-outlooks : {X E : Type 0} (items : X → List Outlook) (line : Extent → TableLine) (e f : Extent) → e ≡ f
-    → (table : PruningTable) (shown : Coordinate) → StaysBelow shown → ShowsSame (line e).coordinate shown
+    → (table : PruningTable) (shown : Coordinate) → StaysBelow (line f).coordinate → ShowsSame (line e).coordinate shown
     → (r : Result X E) → IfOk r (λ all. AreOutlooks shown table.distances.distances (items all))
     → IfOk r (λ all. AreOutlooksOf (line f) table (items all))
 IfOk-outlooks items line e f same table shown below shows r found =
     subst (λ x. IfOk r (λ all. AreOutlooksOf (line x) table (items all))) same
     (IfOk-weaker r (λ all. AreOutlooks shown table.distances.distances (items all)) (λ all. AreOutlooksOf (line e) table (items all))
-    (λ all. AreOutlooks-same (line e).coordinate shown below shows table.distances.distances (items all)) found)
+    (λ all. AreOutlooks-same (line e).coordinate shown (subst (λ x. StaysBelow (line x).coordinate) (sym same) below) shows table.distances.distances (items all)) found)

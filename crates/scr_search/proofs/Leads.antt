@@ -1,8 +1,8 @@
 -- Where words lead.
 use Rattle.std.proofs.Common.{◌≡◌, ℕ, ◌<◌, Bool, true, false, List, [], ◌∷◌, ◌++◌, length, get_or, slice_index, Option, Some}
-use Rattle.std.proofs.Common.{None, inl, inr, refl, sym, ap, ◌∙◌, arith}
+use Rattle.std.proofs.Common.{None, inl, inr, refl, sym, ap, ◌∙◌}
 use Rattle.std.specs.Prelude.{All, option_and_then}
-use Rattle.std.specs.Option.{option_map, option_map_or}
+use Rattle.std.specs.Option.{option_map_or}
 use Rattle.std.proofs.lemmas.Bool.{cases_lt, false≢true}
 use Rattle.std.proofs.lemmas.List.Elements.{All-head, All-tail}
 use Rattle.std.proofs.lemmas.Option.{same_Some, slice_get-get_or}
@@ -12,7 +12,7 @@ use Rattle.scr_combinatorics.proofs.PlayLaws.{play-append, play-one, play-parts}
 use Rattle.scr_orbit.specs.PowerPuzzles.{all_turns as cube_turns}
 use Rattle.scr_cube.specs.Cube333.{CubeState, cube_monoid, cube_powers, solved_cube}
 use Rattle.scr_cube.proofs.Laws333.{lawful_cube}
-use Rattle.scr_cube.proofs.ListedTurns.{after_of-is, length-turns}
+use Rattle.scr_cube.proofs.ListedTurns.{after_of-is, turn-leads}
 use Rattle.scr_cube.specs.ListedTurns.{after_of}
 use Rattle.scr_search.specs.Orderly.{after_turn, leads}
 
@@ -66,15 +66,8 @@ play-places turns c (k ∷ places) below =
     rest (Some d) h = h d
 
 -- each of the turns leads somewhere
-turn_leads-to : (c : CubeState) (t : ℕ) → t < 18
-    → after_turn c t ≡ Some (cube_monoid.turned c (get_or (cube_turns cube_powers) t solved_cube))
-unfolding cube_turns
-turn_leads-to c t lt =
-    ap (option_map (cube_monoid.turned c)) (sym (lawful_cube.numbered t)
-    ∙ slice_get-get_or (cube_turns cube_powers) t solved_cube (omega (arith, length-turns)))
-
 pub turn_leads : (c : CubeState) (t : ℕ) → t < 18 → (d : CubeState) × (after_turn c t ≡ Some d)
-turn_leads c t lt = (cube_monoid.turned c (get_or (cube_turns cube_powers) t solved_cube), turn_leads-to c t lt)
+turn_leads c t lt = (cube_monoid.turned c (get_or (cube_turns cube_powers) t solved_cube), turn-leads c t lt)
 
 -- there are no others
 no_state : (o : Option CubeState) (d : CubeState) → o ≡ None → o ≡ Some d → ⊥
@@ -90,7 +83,7 @@ turn-below c d t e =
 -- and where: to what the turn with the number makes of the cube
 pub after_turn-is : (c d : CubeState) (t : ℕ) → after_turn c t ≡ Some d
     → d ≡ cube_monoid.turned c (get_or (cube_turns cube_powers) t solved_cube)
-after_turn-is c d t to = same_Some d (cube_monoid.turned c (get_or (cube_turns cube_powers) t solved_cube)) (sym to ∙ (turn_leads-to c t (turn-below c d t to)))
+after_turn-is c d t to = same_Some d (cube_monoid.turned c (get_or (cube_turns cube_powers) t solved_cube)) (sym to ∙ (turn-leads c t (turn-below c d t to)))
 
 -- where words of turns lead behind a word
 pub leads-behind : (test : CubeState → Bool) (c there : CubeState) (word v : List ℕ)

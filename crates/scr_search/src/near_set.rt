@@ -6,7 +6,7 @@ ghost use Rattle.scr_search.specs.Near.{HasBits, IsInSet, IsNear, LeavesNear, fi
 ghost use Rattle.scr_search.specs.Spread.{IsSpread};
 ghost use Rattle.scr_search.specs.declared.near_set.NearBlock.{NearBlock as Block};
 ghost use Rattle.scr_search.specs.TurnSets.{contains_turn};
-ghost use Rattle.scr_search.specs.Views.{Shows};
+ghost use Rattle.scr_search.specs.Views.{AreViews, Shows};
 
 use crate::numbers::{Listed, Numbers, numbers_within, spread};
 use crate::part::Part;
@@ -132,13 +132,13 @@ impl NearSet {
         at: PartPosition,
         turns: TurnSet,
     ) -> TurnSet
+        requires views { AreViews P.views P.extent }
         requires few { turns.bits < 2 ^ 18 }
         requires below { (place : ℕ) → IsTrue (contains_turn turns.bits place) → place < length P.views.turns }
         ensures left { (c : CubeState) (more : ℕ) → IsNear P.views more (IsInSet self.now) → Shows P.views c at
             → LeavesNear P.views.turns P.views.ends c more turns.bits result.bits }
         ensures few { result.bits < 2 ^ 18 }
     {
-        P::are_views();
         if self.blocks.is_empty() {
             return turns;
         }

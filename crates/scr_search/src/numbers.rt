@@ -4,7 +4,7 @@ ghost use Rattle.scr_cube.specs.Cube333.{CubeState};
 ghost use Rattle.scr_search.specs.Near.{IsNear};
 ghost use Rattle.scr_search.specs.Spread.{IsListed, IsSpread, IsThere, numbers_in};
 ghost use Rattle.scr_search.specs.Orderly.{after_turn};
-ghost use Rattle.scr_search.specs.Views.{part_number};
+ghost use Rattle.scr_search.specs.Views.{AreViews, part_number};
 
 use crate::part::Part;
 use crate::position::BLOCK;
@@ -140,6 +140,7 @@ pub(crate) fn numbers_within<R: Threads + Sync, P: Part + Sync>(
     most: u32,
     workers: u32,
 ) -> Result<Vec<Listed>, AllocError>
+    requires views { AreViews P.views P.extent }
     requires workers { (1 ≤ workers) × (workers ≤ 64) }
     ensures { IfOk result (λ all. IsNear P.views most (IsListed all.items)) }
 {
@@ -223,6 +224,7 @@ fn one_turn_more<R: Threads + Sync, P: Part + Sync>(
     lists: &[Listed],
     workers: u32,
 ) -> Result<Vec<Listed>, AllocError>
+    requires views { AreViews P.views P.extent }
     requires workers { (1 ≤ workers) × (workers ≤ 64) }
     requires few { length lists.now ≤ 2 ^ 16 }
     requires blocks { (c : CubeState) → P.views.IsSeen c → part_number P.views c / 2 ^ 32 < length lists.now }
@@ -250,6 +252,7 @@ fn list_each<R: Threads + Sync, P: Part + Sync>(
     all: &mut [Listed],
     workers: u32,
 ) -> bool
+    requires views { AreViews P.views P.extent }
     requires workers { (1 ≤ workers) × (workers ≤ 64) }
     requires blocks { length all.old ≡ length jobs.now.lists.now }
     requires few { length all.old ≤ 2 ^ 16 }
@@ -257,7 +260,6 @@ fn list_each<R: Threads + Sync, P: Part + Sync>(
     ensures { (most : ℕ) → IsTrue result → IsNear P.views most (IsListed jobs.now.lists.now)
         → IsNear P.views (most + 1) (IsListed all.new) }
 {
-    P::are_views();
     run_chunks(rt, jobs, all, workers, &OpenGate);
     are_all_there(all)
 }

@@ -7,7 +7,7 @@ ghost use Rattle.scr_search.specs.Outlooks.{turns_within, AreFound, IsOutlook, A
 
 use crate::turn_set::TurnSet;
 use scr_positions::{Coord, NOWHERE};
-use scr_table::DistanceTable;
+use scr_table::{DistanceTable, GREATEST_BOUND};
 use std::alloc::{AllocError, Global};
 use std::thread::{Threads, for_each_chunk_mut};
 
@@ -24,10 +24,10 @@ pub struct Outlook {
 }
 
 impl Outlook {
-    /// What is known of a position by its distance alone, at most 24: any turn may lead nearer.
+    /// What is known of a position by its distance alone, at most `GREATEST_BOUND`: any turn may lead nearer.
     #[inline]
     pub(crate) fn at_distance(distance: u32) -> Outlook
-        requires { distance ≤ 24 }
+        requires { distance ≤ GREATEST_BOUND }
         ensures nearer { result.nearer ≡ (2 ^ 18 - 1) + distance * 2 ^ 18 }
         ensures no_farther { result.no_farther ≡ 2 ^ 18 - 1 }
     {
@@ -62,7 +62,7 @@ impl Outlook {
 }
 
 /// How many positions are looked at together, turn by turn.
-const BLOCK: usize = 1024;
+const AT_ONCE: usize = 1024;
 
 /// The turns of some that lead nearer to the goal, and those that lead no farther.
 #[derive(Clone, Copy)]
@@ -112,7 +112,7 @@ fn distances_of<R: Threads + Sync>(
 ) -> Result<Vec<u8>, AllocError>
     requires { (1 ≤ workers) × (workers ≤ 64) }
     ensures same { IfOk result (λ distances. distances.items ≡ table.now.distances) }
-    ensures small { IfOk result (λ distances. (p : ℕ) → slice_index distances.items p ≤ 24) }
+    ensures small { IfOk result (λ distances. (p : ℕ) → slice_index distances.items p ≤ GREATEST_BOUND) }
 {
     let mut distances = vec![in alloc; 0; table.positions() as usize]?;
     read_distances(rt, table, &mut distances[..], workers);
@@ -132,7 +132,7 @@ fn read_distances<R: Threads + Sync>(rt: &R, table: &DistanceTable, into: &mut [
     requires positions { length into.old ≡ length table.now.distances }
     requires workers { (1 ≤ workers) × (workers ≤ 64) }
     ensures same { into.new ≡ table.now.distances }
-    ensures small { (p : ℕ) → slice_index into.new p ≤ 24 }
+    ensures small { (p : ℕ) → slice_index into.new p ≤ GREATEST_BOUND }
 {
     for_each_chunk_mut(
         rt,
@@ -149,7 +149,7 @@ fn read_from(table: &DistanceTable, start: usize, into: &mut [u8])
     requires { start + length into.old ≤ length table.now.distances }
     ensures same { (k : ℕ) → k < length into.old
         → slice_index into.new k ≡ slice_index table.now.distances (start + k) }
-    ensures small { (k : ℕ) → k < length into.old → slice_index into.new k ≤ 24 }
+    ensures small { (k : ℕ) → k < length into.old → slice_index into.new k ≤ GREATEST_BOUND }
 {
     let _positions = table.positions();
     for k in 0..into.len() {
@@ -157,7 +157,7 @@ fn read_from(table: &DistanceTable, start: usize, into: &mut [u8])
     }
 }
 
-/// Finds the outlook of each position, by 1 to 64 workers. Distances are at most 24.
+/// Finds the outlook of each position, by 1 to 64 workers. Distances are at most `GREATEST_BOUND`.
 fn look_out<R: Threads + Sync, C: Coord + Sync>(
     rt: &R,
     coord: &C,
@@ -167,7 +167,7 @@ fn look_out<R: Threads + Sync, C: Coord + Sync>(
 )
     requires turns { (C.coordinate coord.now).turns ≤ 18 }
     requires distances { length distances.now ≡ (C.coordinate coord.now).count }
-    requires small { (p : ℕ) → slice_index distances.now p ≤ 24 }
+    requires small { (p : ℕ) → slice_index distances.now p ≤ GREATEST_BOUND }
     requires positions { length all.old ≡ (C.coordinate coord.now).count }
     requires workers { (1 ≤ workers) × (workers ≤ 64) }
     ensures { AreOutlooks (C.coordinate coord.now) distances.now all.new }
@@ -179,24 +179,24 @@ fn look_out<R: Threads + Sync, C: Coord + Sync>(
         &|start: usize, part: &mut [Outlook]|
             requires turns { (C.coordinate coord.now).turns ≤ 18 }
             requires distances { length distances.now ≡ (C.coordinate coord.now).count }
-            requires small { (p : ℕ) → slice_index distances.now p ≤ 24 }
+            requires small { (p : ℕ) → slice_index distances.now p ≤ GREATEST_BOUND }
             requires positions { start + length part.old ≤ (C.coordinate coord.now).count }
         { look_out_from(coord, distances, start, part) },
     );
 }
 
-/// Finds the outlooks of the positions from `start` on, block by block.
+/// Finds the outlooks of the positions from `start` on, so many at once.
 fn look_out_from<C: Coord>(coord: &C, distances: &[u8], start: usize, into: &mut [Outlook])
     requires turns { (C.coordinate coord.now).turns ≤ 18 }
     requires distances { length distances.now ≡ (C.coordinate coord.now).count }
-    requires small { (p : ℕ) → slice_index distances.now p ≤ 24 }
+    requires small { (p : ℕ) → slice_index distances.now p ≤ GREATEST_BOUND }
     requires positions { start + length into.old ≤ (C.coordinate coord.now).count }
     ensures { let c = C.coordinate coord.now in (k : ℕ) (d : Looking) → k < length into.old
         → IsOutlook c distances.now (start + k) (slice_index_or into.new k d) }
 {
     let _count = coord.count();
-    for first in (0..into.len()).step_by(BLOCK) {
-        let size = (into.len() - first).min(BLOCK);
+    for first in (0..into.len()).step_by(AT_ONCE) {
+        let size = (into.len() - first).min(AT_ONCE);
         let found = found_from(coord, distances, (start + first) as u32, size);
         for k in 0..size {
             into[first + k] = outlook_of(coord, distances, start + first + k, found[k]);
@@ -204,17 +204,17 @@ fn look_out_from<C: Coord>(coord: &C, distances: &[u8], start: usize, into: &mut
     }
 }
 
-/// What turns lead to from `size` positions one after another, `start` first, at most as many as a block has.
-fn found_from<C: Coord>(coord: &C, distances: &[u8], start: u32, size: usize) -> [Found; BLOCK]
+/// What turns lead to from `size` positions one after another, `start` first, at most `AT_ONCE`.
+fn found_from<C: Coord>(coord: &C, distances: &[u8], start: u32, size: usize) -> [Found; AT_ONCE]
     requires turns { (C.coordinate coord.now).turns ≤ 18 }
     requires distances { length distances.now ≡ (C.coordinate coord.now).count }
     requires positions { start + size ≤ (C.coordinate coord.now).count }
-    requires block { size ≤ 1024 }
+    requires few { size ≤ 1024 }
     ensures { let c = C.coordinate coord.now in (k : ℕ) (d : Finding) → k < size
         → AreFound c distances.now (start + k) c.turns (slice_index_or result k d) }
 {
-    let mut seen = [NOWHERE; BLOCK];
-    let mut found = [NONE_FOUND; BLOCK];
+    let mut seen = [NOWHERE; AT_ONCE];
+    let mut found = [NONE_FOUND; AT_ONCE];
     for turn in 0..coord.turns() {
         let part = &mut seen[..size];
         coord.look(distances, start, turn, part);
@@ -230,12 +230,12 @@ fn enter_turn<C: Coord>(
     start: u32,
     turn: u32,
     seen: &[u8],
-    found: &mut [Found; BLOCK],
+    found: &mut [Found; AT_ONCE],
 )
     requires turns { (C.coordinate coord.now).turns ≤ 18 }
     requires distances { length distances.now ≡ (C.coordinate coord.now).count }
     requires positions { start + length seen.now ≤ (C.coordinate coord.now).count }
-    requires block { length seen.now ≤ 1024 }
+    requires few { length seen.now ≤ 1024 }
     requires turn { turn < (C.coordinate coord.now).turns }
     requires seen { AreSeen (C.coordinate coord.now) distances.now start turn seen.now }
     requires long { length found.old ≡ 1024 }
@@ -288,7 +288,7 @@ fn with_turn<C: Coord>(
 fn outlook_of<C: Coord>(_coord: &C, distances: &[u8], position: usize, found: Found) -> Outlook
     requires turns { (C.coordinate _coord.now).turns ≤ 18 }
     requires distances { length distances.now ≡ (C.coordinate _coord.now).count }
-    requires small { (p : ℕ) → slice_index distances.now p ≤ 24 }
+    requires small { (p : ℕ) → slice_index distances.now p ≤ GREATEST_BOUND }
     requires position { position < (C.coordinate _coord.now).count }
     requires found { let c = C.coordinate _coord.now in AreFound c distances.now position c.turns found }
     ensures { IsOutlook (C.coordinate _coord.now) distances.now position result }

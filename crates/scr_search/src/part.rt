@@ -35,14 +35,6 @@ pub trait Part: Copy {
         ensures same { result.now ≡ extent }
         ensures views { AreViews views result.now };
 
-    /// Does nothing: the coordinates go along with the turns, and the numbers are theirs.
-    #[inline]
-    fn are_views()
-        ensures { AreViews views extent }
-    {
-        let _extent = Self::extent();
-    }
-
     /// Where turns lead in the first of its own coordinates.
     fn one_moves(alloc: Global) -> Result<MoveTable, NoMemory>
         ensures { IfOk result (λ moves. ShowsSame views.one.coordinate (moves_coordinate moves)) };

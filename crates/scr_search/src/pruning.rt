@@ -10,7 +10,7 @@ ghost use Rattle.scr_search.specs.Views.{beside, index_beside};
 
 use crate::outlook::Outlook;
 use scr_positions::{Coord, MoveTable, Product};
-use scr_table::{BuildFault, DistanceTable, TableName};
+use scr_table::{BuildFault, DistanceTable, GREATEST_BOUND, TableName};
 use std::alloc::Global;
 use std::thread::Threads;
 
@@ -25,7 +25,7 @@ pub struct PruningTable {
 
 impl PruningTable {
     /// The table of a name and of what a coordinate of at most 18 turns shows, built by 1 to 64 workers, or why it
-    /// isn't built. It may reach at most 24 turns.
+    /// isn't built. It may reach at most `GREATEST_BOUND` turns.
     pub fn build<R: Threads + Sync, C: Coord + Sync>(
         rt: &R,
         alloc: Global,
@@ -33,7 +33,7 @@ impl PruningTable {
         coord: &C,
         workers: u32,
     ) -> Result<PruningTable, BuildFault>
-        requires bound { reach.1 ≤ 24 }
+        requires bound { reach.1 ≤ GREATEST_BOUND }
         requires turns { (C.coordinate coord.now).turns ≤ 18 }
         requires workers { (1 ≤ workers) × (workers ≤ 64) }
         ensures table { (c : Coordinate) → ShowsSame c (C.coordinate coord.now)
@@ -41,7 +41,6 @@ impl PruningTable {
         ensures cause { (c : Coordinate) → ShowsSame c (C.coordinate coord.now)
             → IfErr result (IsCause reach.0 c reach.1) }
     {
-        coord.stays_below();
         let (name, bound) = reach;
         let distances = DistanceTable::build(rt, alloc, name, coord, bound, workers)?;
         Ok(PruningTable {

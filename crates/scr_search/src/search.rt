@@ -3,7 +3,7 @@ ghost use Rattle.std.specs.Prelude.{◌≡◌, ◌+◌, ◌++◌, ◌<◌, ◌�
 ghost use Rattle.scr_combinatorics.specs.Words.{words_behind, words_within};
 ghost use Rattle.scr_search.specs.Orderly.{ends_with};
 ghost use Rattle.scr_search.specs.Search.{IsAt, IsSearched};
-ghost use Rattle.scr_search.specs.Views.{is_whole};
+ghost use Rattle.scr_search.specs.Views.{AreViews, is_whole};
 
 use crate::part::Part;
 use crate::position::PartPosition;
@@ -47,6 +47,7 @@ fn search_behind<P: Part>(
     left: u32,
     tries: &mut u32,
 ) -> bool
+    requires views { AreViews P.views P.extent }
     requires at { IsAt P.views cube.now word.old at }
     requires last { left ≡ 0 → IsTrue (ends_with P.views.is_last word.old) }
     requires few { length word.old + left ≤ P.views.before + P.extent.most }

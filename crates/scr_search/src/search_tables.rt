@@ -11,7 +11,7 @@ ghost use Rattle.scr_search.specs.Orderly.{after_turn, leads};
 ghost use Rattle.scr_search.specs.Outlooks.{AreOutlooksOf, IsPruningTable};
 ghost use Rattle.scr_search.specs.Search.{IsAt, KeepsWays};
 ghost use Rattle.scr_search.specs.TurnSets.{contains_turn};
-ghost use Rattle.scr_search.specs.Views.{Shows, lines_of, one_line, other_line, part_number, view_beside};
+ghost use Rattle.scr_search.specs.Views.{AreViews, Shows, lines_of, one_line, other_line, part_number, view_beside};
 
 use crate::near_set::{NEAR, NEAR_AT, NearSet};
 use crate::outlook::{Outlook, outlooks};
@@ -105,11 +105,9 @@ impl<P: Part> SearchTables<P> {
         let extent = P::extent();
         if of_one {
             let moves = beside(extent.middle_first, &self.one, &self.middle);
-            moves.stays_below();
             outlooks(rt, alloc, &moves, &self.one_slice.distances, workers)
         } else {
             let moves = beside(extent.middle_first, &self.other, &self.middle);
-            moves.stays_below();
             outlooks(rt, alloc, &moves, &self.other_slice.distances, workers)
         }
     }
@@ -165,11 +163,11 @@ impl<P: Part> SearchTables<P> {
 
     /// A number of turns of which no fewer lead from a position to an end of the part.
     pub(crate) fn least_from(&self, at: PartPosition) -> u32
-        requires { (c : CubeState) × Shows P.views c at }
+        requires views { AreViews P.views P.extent }
+        requires at { (c : CubeState) × Shows P.views c at }
         ensures { (c : CubeState) (n : ℕ) (w : List ℕ) → Shows P.views c at → n < result
             → Contains (words_of P.views.turns n) w → leads P.views.ends c w ≡ false }
     {
-        P::are_views();
         let by_one = self.one_slice.distance(Self::one_index(at));
         if self.near.has(Self::number_of(at)) {
             by_one
@@ -221,11 +219,11 @@ impl<P: Part> SearchTables<P> {
     /// Where the turn at a place leads.
     #[inline]
     pub(crate) fn after(&self, at: PartPosition, place: u32) -> PartPosition
-        requires { place < length P.views.turns }
+        requires views { AreViews P.views P.extent }
+        requires place { place < length P.views.turns }
         ensures { (c d : CubeState) → Shows P.views c at → after_turn c (slice_index P.views.turns place) ≡ Some d
             → Shows P.views d result }
     {
-        P::are_views();
         PartPosition {
             one: self.one.target(at.one, place),
             other: self.other.target(at.other, place),
@@ -259,11 +257,11 @@ impl<P: Part> SearchTables<P> {
     /// The block to which the turn at a place leads from the cubes of a block, if there are any.
     #[inline]
     pub(crate) fn block_after(&self, block: u32, place: u32) -> u32
-        requires { place < length P.views.turns }
+        requires views { AreViews P.views P.extent }
+        requires place { place < length P.views.turns }
         ensures { (c d : CubeState) → P.views.IsSeen c → block ≡ part_number P.views c / 2 ^ 32
             → after_turn c (slice_index P.views.turns place) ≡ Some d → result ≡ part_number P.views d / 2 ^ 32 }
     {
-        P::are_views();
         self.middle.target(block, place)
     }
 }

@@ -10,7 +10,7 @@ use Rattle.scr_stages.proofs.StateTables.{AreLinesOf-stages}
 use Rattle.scr_twophase.specs.Tables.{prune_lines}
 use Rattle.scr_twophase.specs.SearchTables.{prune_tables}
 use Rattle.scr_twophase.proofs.StateTables.{AreLinesOf-prune}
-use Rattle.scr_sq1solve.proofs.StateTables.{AreLinesOf-sq1}
+use Rattle.scr_sq1tables.proofs.StateTables.{AreLinesOf-sq1}
 use Rattle.scr_slots.specs.TableLines.{family_lines}
 use Rattle.scr_slots.specs.Tables.{family_tables}
 

@@ -6,7 +6,7 @@ use Rattle.scr_table.specs.Lines.{TableLine}
 use Rattle.scr_stages.specs.Tables.{stage_lines}
 use Rattle.scr_twophase.specs.Tables.{prune_lines}
 use Rattle.scr_small.specs.Puzzles.{corners_line, pyramid_line, skewb_line}
-use Rattle.scr_sq1solve.specs.Tables.{sq1_lines}
+use Rattle.scr_sq1tables.specs.Tables.{sq1_lines}
 
 -- those of a family, in the order in which they are built
 unfoldable pub family_lines : Family → List TableLine

@@ -10,7 +10,7 @@ use Rattle.scr_table.specs.SearchTables.{SearchTable, IsCauseAmong}
 use Rattle.scr_small.specs.SearchTables.{corners_table, pyramid_table, skewb_table}
 use Rattle.scr_stages.specs.SearchTables.{stage_tables}
 use Rattle.scr_twophase.specs.SearchTables.{prune_tables}
-use Rattle.scr_sq1solve.specs.SearchTables.{sq1_tables}
+use Rattle.scr_sq1tables.specs.SearchTables.{sq1_tables}
 
 abbrev pub is_family : Family → Option Family → Bool
 is_family Cube222 (Some Cube222) = true

@@ -105,7 +105,7 @@ module _ {S T : Type 0} (p : NumberedPuzzle S T) (l : IsNumberedPuzzle p) where
     -- each valid state has a first word to solved
     pub first_solution : (s : S) → p.numbered.IsValid s → (w : List ℕ) × IsFirstSolution p s w
     first_solution s h =
-        let found = first_word (state_coordinate p) StaysBelow-states table m (p.numbered.number_of s) (l.numbering.one_to_one.below s h) in
+        let found = first_word (state_coordinate p) table m (p.numbered.number_of s) (l.numbering.one_to_one.below s h) in
         (found.0, (finds_the_same.first_words s found.0 h).1 found.1)
 
     pub IsDistance-state : (s : S) → p.numbered.IsValid s

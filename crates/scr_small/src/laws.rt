@@ -17,7 +17,7 @@ pub fn reached_by_table<P: OneTable>(tables: &SmallTables)
     requires { tables.now.event ≡ P.TABLE.event }
     ensures { (s : P.State) → P.shown.numbered.IsValid s ↔ IsReached (numbered_as_puzzle P.shown) s }
 {
-    P::is_solved_by_table();
+    let _numbers = P::numbers();
     let _table = tables.only();
 }
 

@@ -20,40 +20,29 @@ pub trait OneTable: Numbering<State: PowerTurned> + Copy {
 
     const TABLE: StateTable;
 
-    /// The numbering of its states.
+    /// The numbering of its states. One table solves them.
     fn numbers() -> Self
         ensures count { (Self.numbered result).count ≡ shown.numbered.count }
         ensures states { (Self.numbered result).state_at ≡ shown.numbered.state_at }
         ensures numbers { (Self.numbered result).number_of ≡ shown.numbered.number_of }
-        ensures valid { (state : Self.State) → (Self.numbered result).IsValid state ↔ shown.numbered.IsValid state };
+        ensures valid { (state : Self.State) → (Self.numbered result).IsValid state ↔ shown.numbered.IsValid state }
+        ensures solved { IsSolvedByTable shown TABLE };
 
     /// Does nothing: each state is valid.
     fn is_valid(state: &Self::State)
         ensures { shown.numbered.IsValid state.now };
 
-    /// Does nothing: one table solves it.
-    fn is_solved_by_table()
-        ensures { IsSolvedByTable shown TABLE };
-
     /// Its turns are those of the states.
     ghost turned_by: { (shown.after ≡ Self.State.after) × (shown.letter_at ≡ Self.State.Kind.letters.letter_at)
         × (shown.turns ≡ Self.State.Kind.POWERS * Self.State.GENERATORS) };
-
-    /// The state with a number.
-    final fn state_with(number: u32) -> Self::State
-        requires { number < shown.numbered.count }
-        ensures { result ≡ shown.numbered.state_at number }
-    {
-        Self::numbers().state_at(u128::from(number))
-    }
 
     /// The number of a state.
     final fn number(state: &Self::State) -> u32
         ensures number { result ≡ shown.numbered.number_of state.now }
         ensures valid { shown.numbered.IsValid state.now }
+        ensures solved { IsSolvedByTable shown TABLE }
     {
         Self::is_valid(state);
-        Self::is_solved_by_table();
         Self::numbers().number_of(state) as u32
     }
 

@@ -1,5 +1,7 @@
 //! The two parts of a puzzle's states, each as a coordinate.
+ghost use Rattle.std.specs.Prelude.{◌≡◌};
 ghost use Rattle.scr_positions.specs.Coordinates.{StaysBelow};
+ghost use Rattle.scr_small.specs.SolvedByTable.{IsSolvedByTable};
 ghost use Rattle.scr_small.specs.StateParts.{low_part, high_part};
 
 use crate::one_table::OneTable;
@@ -12,14 +14,29 @@ use std::marker::PhantomData;
 pub(crate) struct LowPart<P: OneTable> {
     puzzle: PhantomData<P>,
     ghost stays: { StaysBelow (low_part P.shown P.TABLE.low) },
+    ghost first: { P.shown.numbered.number_of P.shown.solved ≡ 0 },
 }
 
-impl<P: OneTable> LowPart<P> {
-    pub fn new() -> LowPart<P> {
-        LowPart {
-            puzzle: PhantomData,
-        }
-    }
+/// The other part. A step does as much.
+#[derive(Drop)]
+pub(crate) struct HighPart<P: OneTable> {
+    puzzle: PhantomData<P>,
+    ghost stays: { StaysBelow (high_part P.shown P.TABLE.low P.TABLE.high) },
+    ghost first: { P.shown.numbered.number_of P.shown.solved ≡ 0 },
+}
+
+/// The two parts of a puzzle that one table solves.
+pub(crate) fn parts_of<P: OneTable>() -> (LowPart<P>, HighPart<P>)
+    ensures { IsSolvedByTable P.shown P.TABLE }
+{
+    let _numbers = P::numbers();
+    let low = LowPart {
+        puzzle: PhantomData,
+    };
+    let high = HighPart {
+        puzzle: PhantomData,
+    };
+    (low, high)
 }
 
 impl<P: OneTable> Coord for LowPart<P> {
@@ -34,33 +51,12 @@ impl<P: OneTable> Coord for LowPart<P> {
     }
 
     fn after(&self, position: u32, turn: u32) -> Option<u32> {
-        P::is_solved_by_table();
-        let turned = P::turned(&P::state_with(position), turn);
-        Some(P::number(&turned) % P::TABLE.low)
+        let state = P::numbers().state_at(u128::from(position));
+        Some(P::number(&P::turned(&state, turn)) % P::TABLE.low)
     }
 
     fn is_goal(&self, position: u32) -> bool {
-        P::is_solved_by_table();
         position == 0
-    }
-
-    #[inline]
-    fn stays_below(&self) {}
-}
-
-/// The other part. A step does as much.
-#[derive(Drop)]
-pub(crate) struct HighPart<P: OneTable> {
-    puzzle: PhantomData<P>,
-    ghost stays: { StaysBelow (high_part P.shown P.TABLE.low P.TABLE.high) },
-}
-
-impl<P: OneTable> HighPart<P> {
-    pub fn new() -> HighPart<P> {
-        P::is_solved_by_table();
-        HighPart {
-            puzzle: PhantomData,
-        }
     }
 }
 
@@ -76,16 +72,12 @@ impl<P: OneTable> Coord for HighPart<P> {
     }
 
     fn after(&self, position: u32, turn: u32) -> Option<u32> {
-        P::is_solved_by_table();
-        let turned = P::turned(&P::state_with(P::TABLE.low * position), turn);
-        Some(P::number(&turned) / P::TABLE.low)
+        let numbers = P::numbers();
+        let state = numbers.state_at(u128::from(P::TABLE.low * position));
+        Some(P::number(&P::turned(&state, turn)) / P::TABLE.low)
     }
 
     fn is_goal(&self, position: u32) -> bool {
-        P::is_solved_by_table();
         position == 0
     }
-
-    #[inline]
-    fn stays_below(&self) {}
 }

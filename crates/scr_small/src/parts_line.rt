@@ -2,7 +2,7 @@
 ghost use Rattle.scr_small.specs.Tables.{table_line};
 
 use crate::one_table::OneTable;
-use crate::parts::{HighPart, LowPart};
+use crate::parts::parts_of;
 use scr_outside::NoMemory;
 use scr_positions::{MoveTable, Product};
 use scr_table::{Line, TableName};
@@ -18,14 +18,14 @@ impl<P: OneTable> Line for PartsLine<P> {
     ghost line = { table_line P.shown P.TABLE };
 
     fn reach() -> (TableName, u32) {
-        P::is_solved_by_table();
+        let _numbers = P::numbers();
         (P::TABLE.name, P::TABLE.bound)
     }
 
     type Moves = Product<MoveTable, MoveTable>;
 
     fn moves(alloc: Global) -> Result<Product<MoveTable, MoveTable>, NoMemory> {
-        P::is_solved_by_table();
-        Product::of_moves(alloc, &LowPart::<P>::new(), &HighPart::<P>::new())
+        let (low, high) = parts_of::<P>();
+        Product::of_moves(alloc, &low, &high)
     }
 }

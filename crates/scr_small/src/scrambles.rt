@@ -15,7 +15,6 @@ pub fn scramble_of<P: OneTable>(tables: &SmallTables, state: &P::State) -> Scram
     requires { tables.now.event ≡ P.TABLE.event }
     ensures { IsScrambleByTable P.shown P.TABLE state.now result }
 {
-    P::is_solved_by_table();
     let word = tables.descend(P::number(state));
     inverse(&numbered_scramble(P::TABLE.event, &word))
 }
@@ -28,7 +27,6 @@ pub(crate) fn distance_of<P: OneTable>(tables: &SmallTables, state: &P::State) -
     ensures exact { (least : ℕ) → (least ≤ result) ↔ Needs (numbered_as_puzzle P.shown) state.now least }
     ensures measures { Measures (state_coordinate P.shown) tables.now.distances }
 {
-    P::is_solved_by_table();
     tables.only().distance(P::number(state))
 }
 

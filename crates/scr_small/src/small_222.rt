@@ -46,8 +46,6 @@ impl OneTable for Numbers222 {
         let [..] = state.twists();
     }
 
-    fn is_solved_by_table() {}
-
     ghost turned_by = { (refl, refl, refl) };
 }
 

@@ -11,15 +11,14 @@ use crate::scrambles::{needs_of, scramble_of};
 use crate::tables::SmallTables;
 use scr_draw::{NumberedStates, Numbering, Permit};
 use scr_notation::Scramble;
-use std::marker::PhantomData;
 
 /// A puzzle that one table solves, with its built table, which tells how many turns each state needs.
 #[derive(Drop)]
 pub struct SmallPuzzle<'a, P: OneTable> {
     tables: &'a SmallTables,
-    puzzle: PhantomData<P>,
+    numbers: P,
     ghost event: { tables.now.event ≡ P.TABLE.event },
-    ghost exact: { (s : P.State) (least : ℕ) → P.shown.numbered.IsValid s
+    ghost exact: { (s : P.State) (least : ℕ) → (P.numbered numbers).IsValid s
         → IsTrue (nat_le least (entry_at tables.now (P.shown.numbered.number_of s)))
         ↔ Needs (numbered_as_puzzle P.shown) s least } by { Prim.hlevel props },
 }
@@ -29,11 +28,10 @@ impl<'a, P: OneTable> SmallPuzzle<'a, P> {
     pub fn new(tables: &'a SmallTables) -> SmallPuzzle<'a, P>
         requires { tables.now.event ≡ P.TABLE.event }
     {
-        P::is_solved_by_table();
         let _table = tables.only();
         SmallPuzzle {
             tables,
-            puzzle: PhantomData,
+            numbers: P::numbers(),
         }
     }
 
@@ -46,23 +44,22 @@ impl<'a, P: OneTable> SmallPuzzle<'a, P> {
 }
 
 impl<P: OneTable> NumberedStates<P::State> for SmallPuzzle<'_, P> {
-    ghost numbered = { λ _. P.shown.numbered };
+    ghost numbered = { λ small. P.numbered small.numbers };
 }
 
 impl<P: OneTable> Numbering for SmallPuzzle<'_, P> {
     type State = P::State;
 
     fn count(&self) -> u128 {
-        P::is_solved_by_table();
-        P::numbers().count()
+        self.numbers.count()
     }
 
     fn state_at(&self, number: u128) -> P::State {
-        P::numbers().state_at(number)
+        self.numbers.state_at(number)
     }
 
     fn number_of(&self, state: &P::State) -> u128 {
-        P::numbers().number_of(state)
+        self.numbers.number_of(state)
     }
 }
 
@@ -77,5 +74,5 @@ impl<P: OneTable> Permit<P::State> for SmallPuzzle<'_, P> {
         needs_of::<P>(self.tables, state, least)
     }
 
-    fn is_exact(&self) {}
+    ghost exact = { λ small s least _ _ valid. small.exact s least valid };
 }

@@ -45,8 +45,6 @@ impl OneTable for TetraminxNumbers {
         let [..] = state.edges();
     }
 
-    fn is_solved_by_table() {}
-
     ghost turned_by = { (refl, refl, refl) };
 }
 
@@ -162,5 +160,5 @@ impl Permit<Pyraminx> for SmallPyram<'_> {
         needs_pyram(self.tables, state, least)
     }
 
-    fn is_exact(&self) {}
+    ghost exact = { λ small s least _ _ valid. small.exact s least valid };
 }

@@ -46,8 +46,6 @@ impl OneTable for SkewbNumbers {
         let [..] = state.centres();
     }
 
-    fn is_solved_by_table() {}
-
     ghost turned_by = { (refl, refl, refl) };
 }
 

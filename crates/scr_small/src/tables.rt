@@ -10,7 +10,7 @@ use crate::parts_line::PartsLine;
 use arrayvec::ArrayVec;
 use scr_cube::Numbers222;
 use scr_notation::Event;
-use scr_table::{BuildFault, DistanceTable, LineTable, TableName};
+use scr_table::{BuildFault, DistanceTable, GREATEST_BOUND, LineTable, TableName};
 use scr_tetra::{SkewbNumbers, TetraminxNumbers};
 use std::alloc::Global;
 use std::marker::Model;
@@ -103,7 +103,7 @@ impl SmallTables {
     }
 
     /// The first word from a position, below the number of positions, to a goal.
-    pub(crate) fn descend(&self, position: u32) -> ArrayVec<u8, 24>
+    pub(crate) fn descend(&self, position: u32) -> ArrayVec<u8, GREATEST_BOUND>
         requires { IfSome (small_line self.now.event) (λ line. position < line.coordinate.count) }
         ensures first { IfSome (small_line self.now.event) (λ line.
             IsFirstWord (moved line.coordinate) (IsGoal line.coordinate) position result.items) }

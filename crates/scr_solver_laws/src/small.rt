@@ -32,7 +32,7 @@ pub fn shown_by_parts<P: OneTable>()
     ensures shown { let parts = product_coordinate (low_part P.shown P.TABLE.low) (high_part P.shown P.TABLE.low P.TABLE.high) in
         ShowsSame (state_coordinate P.shown) parts }
 {
-    P::is_solved_by_table();
+    let _numbers = P::numbers();
 }
 
 /// The lines by which the tables are built are those of the tables as their states tell them: turns lead from numbers
@@ -60,7 +60,7 @@ pub fn measured<P: OneTable>()
     ensures one_scramble { (s : P.State) (some other : List Letter)
         → IsScrambleOf P.shown s some → IsScrambleOf P.shown s other → some ≡ other }
 {
-    P::is_solved_by_table();
+    let _numbers = P::numbers();
 }
 
 /// Where a table measures the Pyraminx without tips, the valid states of the Pyraminx are those that turns reach; a

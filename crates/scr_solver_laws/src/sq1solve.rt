@@ -12,12 +12,13 @@ ghost use Rattle.scr_table.specs.Lines.{AreTablesOf};
 ghost use Rattle.scr_notation.specs.declared.turn.Turn.{Turn as Letter};
 ghost use Rattle.scr_sq1.specs.Units.{Sq1State, IsSq1, solved_sq1, sq1_after, sq1_puzzle};
 ghost use Rattle.scr_notation.specs.Turning.{opposite};
-ghost use Rattle.scr_sq1solve.specs.Stages.{shape_letter, shape_stage, layer_stages, sq1_stages, equator_word, IsScrambleSq1};
-ghost use Rattle.scr_sq1solve.specs.Totals.{is_squared, is_shape_word, shape_words, IsTotal};
+ghost use Rattle.scr_sq1tables.specs.Stages.{shape_letter, shape_stage, layer_stages, sq1_stages, equator_word, IsScrambleSq1};
+ghost use Rattle.scr_sq1solve.specs.Totals.{IsTotal};
+ghost use Rattle.scr_sq1tables.specs.ShapeWords.{is_squared, is_shape_word, shape_words};
 ghost use Rattle.scr_sq1solve.specs.Counts.{twists_in, turned_over, IsWithinBounds};
-ghost use Rattle.scr_sq1solve.specs.Spaces.{IsPairedSq1};
-ghost use Rattle.scr_sq1solve.specs.Tables.{square_index, sq1_lines};
-ghost use Rattle.scr_sq1solve.specs.SearchTables.{sq1_tables};
+ghost use Rattle.scr_sq1tables.specs.Spaces.{IsPairedSq1};
+ghost use Rattle.scr_sq1tables.specs.Tables.{square_index, sq1_lines};
+ghost use Rattle.scr_sq1tables.specs.SearchTables.{sq1_tables};
 ghost use Rattle.scr_sq1solve.specs.ShortScrambles.{IsShortScramble};
 ghost use Rattle.scr_table.specs.TableStates.{AreLinesOf};
 
@@ -38,7 +39,7 @@ pub fn solutions()
 
 /// Two normal states in which mates stand opposite to each other have one index in `square` exactly where they are
 /// equal, up to the equator.
-#[tactic(auto, using(scr_sq1solve::proofs::HomeStage::index_by_units, scr_sq1solve::proofs::HomeStage::same_layers))]
+#[tactic(auto, using(scr_sq1tables::proofs::HomeStage::index_by_units, scr_sq1tables::proofs::HomeStage::same_layers))]
 pub fn layers()
     ensures { (s r : Sq1State) → IsPairedSq1 s → IsPairedSq1 r
         → (square_index s ≡ square_index r) ↔ (s.units ≡ r.units) }

@@ -9,6 +9,7 @@ pub mod Places
 pub mod TurnLaws
 pub mod Clockwise
 pub mod Lawful
+pub mod NumberedTurns
 pub mod LayersApart
 mod Steps
 mod ShapeSteps

@@ -1,8 +1,9 @@
 //! The state of a Square-1 and its turns.
-ghost use Rattle.std.specs.Prelude.{◌≡◌, ◌↔◌, Some, IsTrue, IsSome, IfSome};
+ghost use Rattle.std.specs.Prelude.{◌≡◌, ◌<◌, ◌↔◌, Some, IsTrue, IsSome, IfSome};
 ghost use Rattle.scr_combinatorics.specs.Play.{play};
 ghost use Rattle.scr_notation.specs.declared.turn.Turn.TheVariants.{Layers};
 ghost use Rattle.scr_notation.specs.Layers.{is_twelfths, is_layer_turn};
+ghost use Rattle.scr_notation.specs.TurnNumbers.{layer_turn_at};
 ghost use Rattle.scr_combinatorics.specs.Permutations.{IsPermutation};
 ghost use Rattle.scr_sq1.specs.Shapes.{shape_of};
 ghost use Rattle.scr_sq1.specs.Numbers.{corners_of, edges_of};
@@ -14,6 +15,13 @@ use crate::turning::{UNITS, clockwise, turned, twisted};
 use crate::validity::{are_corners_whole, has_each_piece, is_open, is_open_turned};
 use scr_notation::{Scramble, Turn};
 use std::marker::Model;
+
+/// How many turns there are: one for each two amounts of twelfths from -5 to 6, but that the twist stands in the place
+/// of the one by which neither layer is turned.
+pub const TURNS: u32 = 144;
+
+/// The number of the twist.
+pub const TWIST: u32 = 65;
 
 /// A Square-1 that can be put together, and that can twist: no corner lies across the cut.
 ///
@@ -107,7 +115,8 @@ impl Sq1 {
     /// The corners in unit order.
     pub fn corners(&self) -> [u8; 8]
         ensures corners { result ≡ corners_of self.now.units }
-        ensures valid { IsPermutation 8 result }
+        ensures permutation { IsPermutation 8 result }
+        ensures valid { IsSq1 self.now }
     {
         corners_in(&self.units)
     }
@@ -115,7 +124,8 @@ impl Sq1 {
     /// The edges in unit order, edge n for piece 8 + n.
     pub fn edges(&self) -> [u8; 8]
         ensures edges { result ≡ edges_of self.now.units }
-        ensures valid { IsPermutation 8 result }
+        ensures permutation { IsPermutation 8 result }
+        ensures valid { IsSq1 self.now }
     {
         edges_in(&self.units)
     }
@@ -127,7 +137,8 @@ impl Sq1 {
     pub fn turn(&self, top: i8, bottom: i8) -> Option<Sq1>
         requires top { IsTrue (is_twelfths top) }
         requires bottom { IsTrue (is_twelfths bottom) }
-        ensures { result ≡ after_layers self.now top bottom }
+        ensures value { result ≡ after_layers self.now top bottom }
+        ensures valid { IsSq1 self.now }
     {
         let top = clockwise(top);
         let bottom = clockwise(bottom);
@@ -145,11 +156,27 @@ impl Sq1 {
     #[inline]
     #[tactic(auto, using(crate::proofs::Cited::twist), unfolding(crate::specs::Units::twisted))]
     pub fn twist(&self) -> Sq1
-        ensures { result ≡ twisted self.now }
+        ensures value { result ≡ twisted self.now }
+        ensures valid { IsSq1 self.now }
     {
         Sq1 {
             units: twisted(&self.units),
             equator: !self.equator,
+        }
+    }
+
+    /// The state after the turn of this number, below 144: 12 a + b turns the top layer by a - 5 twelfths and the bottom
+    /// layer by b - 5, but 65 is the twist. `None` comes exactly where it is barred.
+    #[inline]
+    pub fn turn_at(&self, number: u32) -> Option<Sq1>
+        requires { number < 144 }
+        ensures after { result ≡ sq1_after self.now (layer_turn_at number) }
+        ensures valid { IsSq1 self.now }
+    {
+        if number == TWIST {
+            Some(self.twist())
+        } else {
+            self.turn((number / 12) as i8 - 5, (number % 12) as i8 - 5)
         }
     }
 

@@ -8,7 +8,7 @@ ghost use Rattle.scr_sq1.specs.Units.{clockwise, place_before, turn_places, twis
 pub(crate) const UNITS: usize = 24;
 
 /// Where the pieces of each unit stood before a twist.
-const TWIST: [u8; UNITS] = [
+const TWIST_PLACES: [u8; UNITS] = [
     12, 13, 14, 15, 16, 17, 6, 7, 8, 9, 10, 11, 0, 1, 2, 3, 4, 5, 18, 19, 20, 21, 22, 23,
 ];
 
@@ -29,7 +29,7 @@ pub(crate) fn turned(units: &[u8; UNITS], top: u8, bottom: u8) -> [u8; UNITS]
 pub(crate) fn twisted(units: &[u8; UNITS]) -> [u8; UNITS]
     ensures { result ≡ pick units.now twist_places }
 {
-    moved(units, &TWIST)
+    moved(units, &TWIST_PLACES)
 }
 
 /// Each unit gets the piece that stood at its place.

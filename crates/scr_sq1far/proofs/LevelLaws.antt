@@ -18,11 +18,11 @@ use Rattle.scr_notation.specs.Turning.{opposite}
 use Rattle.scr_notation.specs.TurnNumbers.{layer_turn_at}
 use Rattle.scr_sq1.specs.Units.{Sq1State, IsSq1, solved_sq1, sq1_after, sq1_puzzle}
 use Rattle.scr_sq1.proofs.Lawful.{IsLawful-sq1}
+use Rattle.scr_sq1.proofs.NumberedTurns.{number-after}
 use Rattle.scr_sq1far.proofs.Counted.{count_once}
 use Rattle.scr_sq1far.specs.Within.{IsWithin}
 use Rattle.scr_sq1far.specs.Levels.{key_of, is_at_least, TellNeeds, HasLevel, AreTold, AreLevels, IsListed, AreListed, Grows, AreTurnsListed}
 use Rattle.scr_sq1far.proofs.KeyLaws.{key-same}
-use Rattle.scr_sq1far.proofs.TurnLaws.{number-after}
 use Rattle.scr_sq1far.proofs.WithinLaws.{IsWithin-more, Needs-iff}
 
 pub Grows-same : (f : ℕ → Option ℕ) (states : List Sq1State) → Grows f states f states

@@ -1,5 +1,6 @@
 //! States as numbers by which they are looked up.
 ghost use Rattle.std.specs.Prelude.{◌≡◌};
+ghost use Rattle.scr_sq1.specs.Units.{IsSq1};
 ghost use Rattle.scr_sq1far.specs.Levels.{key_of};
 
 use scr_sq1::Sq1;
@@ -8,7 +9,8 @@ use scr_sq1::Sq1;
 /// where their keys do.
 #[inline]
 pub(crate) fn key_of(state: &Sq1) -> u128
-    ensures { result ≡ key_of state.now }
+    ensures key { result ≡ key_of state.now }
+    ensures valid { IsSq1 state.now }
 {
     let units = state.units();
     let mut key: u128 = 0;

@@ -3,15 +3,14 @@ ghost use Rattle.std.specs.Prelude.{◌≡◌, ◌+◌, ◌-◌, ◌<◌, Some, 
 ghost use Rattle.std.specs.HashMap.{get};
 ghost use Rattle.scr_combinatorics.specs.Reach.{Needs};
 ghost use Rattle.scr_notation.specs.TurnNumbers.{layer_turn_at};
-ghost use Rattle.scr_sq1.specs.Units.{Sq1State, sq1_after, sq1_puzzle};
+ghost use Rattle.scr_sq1.specs.Units.{Sq1State, IsSq1, sq1_after, sq1_puzzle};
 ghost use Rattle.scr_sq1far.specs.Found.{AreFound, FindsMore, level_in};
 ghost use Rattle.scr_sq1far.specs.Levels.{TellNeeds, AreLevels, AreTold, AreTurnsListed, HasLevel, key_of};
 ghost use Rattle.scr_sq1far.specs.Within.{IsWithin};
 
 use crate::keys::key_of;
-use crate::turns::{TURNS, after};
 use scr_outside::NoMemory;
-use scr_sq1::Sq1;
+use scr_sq1::{Sq1, TURNS};
 use std::alloc::Global;
 use std::collections::HashMap;
 
@@ -33,7 +32,6 @@ impl Levels {
             states: Vec::new(alloc),
         };
         let solved = Sq1::solved();
-        solved.is_valid();
         found.add(&solved, 0)?;
         for level in 0..REACH {
             found.add_level(level)?;
@@ -47,9 +45,9 @@ impl Levels {
     #[inline]
     pub fn needs(&self, state: &Sq1, least: u32) -> bool
         requires { least ≤ 7 }
-        ensures { IsTrue result ↔ Needs sq1_puzzle state.now least }
+        ensures exact { IsTrue result ↔ Needs sq1_puzzle state.now least }
+        ensures valid { IsSq1 state.now }
     {
-        state.is_valid();
         match self.levels.get(&key_of(state)) {
             Some(level) => least <= u32::from(*level),
             None => true,
@@ -93,7 +91,6 @@ impl Found {
         ensures found { OnOk result (FindsMore level self.old self.new) }
         ensures turns { OnOk result (AreTurnsListed level (level_in self.new) state.now 144) }
     {
-        state.is_valid();
         if level == 1 {
             return self.add_turns(state, level);
         }
@@ -112,7 +109,6 @@ impl Found {
         ensures found { OnOk result (FindsMore level self.old self.new) }
         ensures turns { OnOk result (AreTurnsListed level (level_in self.new) state.now 144) }
     {
-        state.is_valid();
         for turn in 0..TURNS {
             self.add_next(state, turn, level)?;
         }
@@ -129,8 +125,7 @@ impl Found {
         ensures added { OnOk result ((r : Sq1State) → sq1_after state.now (layer_turn_at turn) ≡ Some r
             → HasLevel level (level_in self.new) (key_of r)) }
     {
-        state.is_valid();
-        match after(state, turn) {
+        match state.turn_at(turn) {
             Some(next) => self.add(&next, level),
             None => Ok(()),
         }
@@ -143,7 +138,6 @@ impl Found {
         ensures found { OnOk result (FindsMore level self.old self.new) }
         ensures added { OnOk result (HasLevel level (level_in self.new) (key_of state.now)) }
     {
-        state.is_valid();
         let key = key_of(state);
         if self.levels.contains_key(&key) {
             return Ok(());

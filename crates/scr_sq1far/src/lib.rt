@@ -14,6 +14,5 @@ mod keys;
 pub mod laws;
 mod levels;
 mod near;
-mod turns;
 
 pub use near::{NearSolved, needs_sq1_far};

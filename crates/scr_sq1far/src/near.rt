@@ -1,14 +1,13 @@
 //! Whether a state needs many turns.
 ghost use Rattle.std.specs.Prelude.{◌≤◌, ◌↔◌, IsTrue};
 ghost use Rattle.scr_combinatorics.specs.Reach.{Needs};
-ghost use Rattle.scr_sq1.specs.Units.{sq1_puzzle};
+ghost use Rattle.scr_sq1.specs.Units.{IsSq1, sq1_puzzle};
 ghost use Rattle.scr_sq1far.specs.Alternating.{NeedsBy};
 ghost use Rattle.std.specs.Bool.{OnTrue, OnFalse};
 
 use crate::levels::Levels;
-use crate::turns::{TURNS, TWIST, after};
 use scr_outside::NoMemory;
-use scr_sq1::Sq1;
+use scr_sq1::{Sq1, TURNS, TWIST};
 use std::alloc::Global;
 
 /// What the test goes by: the states near solved. They are built once and lent to each test, since that takes memory,
@@ -31,8 +30,8 @@ impl NearSolved {
     fn needs_by(&self, state: &Sq1, twists: bool, least: u32) -> bool
         ensures needed { OnTrue result (NeedsBy twists state.now least) }
         ensures refused { OnFalse result (Needs sq1_puzzle state.now least → ⊥) }
+        ensures valid { IsSq1 state.now }
     {
-        state.is_valid();
         if least <= 7 {
             return self.levels.needs(state, least);
         }
@@ -41,7 +40,7 @@ impl NearSolved {
         }
         for turn in 0..TURNS {
             if (turn == TWIST) == twists {
-                if let Some(next) = after(state, turn) {
+                if let Some(next) = state.turn_at(turn) {
                     if !self.needs_by(&next, !twists, least - 1) {
                         return false;
                     }
@@ -60,6 +59,5 @@ pub fn needs_sq1_far(near: &NearSolved, state: &Sq1, least: u32) -> bool
     requires { least ≤ 11 }
     ensures { IsTrue result ↔ Needs sq1_puzzle state.now least }
 {
-    state.is_valid();
     near.needs_by(state, false, least) && near.needs_by(state, true, least)
 }

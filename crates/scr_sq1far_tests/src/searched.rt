@@ -107,7 +107,7 @@ fn state_of(turns: u32, number: u64) -> Sq1 {
 }
 
 /// How many turns words have, and numbers by which they are drawn.
-const WORDS: [(u32, u64); 20] = [
+static WORDS: [(u32, u64); 20] = [
     (0, 0),
     (1, 0),
     (1, 1),
@@ -136,8 +136,8 @@ fn needs_as_many_as_a_search_finds(rt: HostRuntime) -> Result<(), Fail> {
     let solved = ball_of(rt.alloc(), &Sq1::solved())?;
     assert_eq!(rt; solved.len(), 45_632);
     let mut found = [false; 12];
-    for (turns, number) in WORDS {
-        let state = state_of(turns, number);
+    for (turns, number) in &WORDS {
+        let state = state_of(*turns, *number);
         let least = turns_between(&ball_of(rt.alloc(), &state)?, &solved);
         for asked in 0..12 {
             let needs = needs_sq1_far(&near, &state, asked);

@@ -1,63 +1,11 @@
 -- The lemmas that the proofs of the code cite, by function.
-use Rattle.scr_combinatorics.proofs.PermutationLaws.{All-permutation, IsPermutation-pick, at-permutation}
-use Rattle.scr_combinatorics.proofs.PermutationNumbers.{permutation_number-lt}
-use Rattle.scr_combinatorics.proofs.Picks.{All-pick, length-pick}
 use Rattle.scr_combinatorics.proofs.PlayLaws.{count_in-append}
-use Rattle.scr_combinatorics.proofs.StageLaws.{by_letters-played}
-use Rattle.scr_notation.proofs.Below.{All-from_test}
-use Rattle.scr_orbit.proofs.OrbitLaws.{places_in}
-use Rattle.scr_positions.proofs.MoveLaws.{each_below-at, each_below-more, each_below-none, length-each_below}
-use Rattle.scr_sq1solve.proofs.Codes.{IsPairing-carried, StaysBelow-code_lists, codes_one_to_one, larger-lt, pair-lt, pieces-are, turned-lt}
-use Rattle.scr_sq1solve.proofs.Lengths.{IsTidy-sq1, layers-permitted-by, layers-written, length-tidy, still-written, turn_word-same, twists-tidy}
-use Rattle.scr_sq1solve.proofs.MinimaLaws.{after-number, after-twist, needs_test-iff}
-use Rattle.scr_sq1solve.proofs.PairingStage.{StaysBelow-pairing_lists}
-use Rattle.scr_sq1solve.proofs.ShapeStage.{StaysBelow-parts, StaysBelow-shapes, after-amounts, layers-index, letter-index, part-made, part-seen, parts-below, state-of_index, still-index, still-parts}
+use Rattle.scr_sq1solve.proofs.Lengths.{IsTidy-sq1, length-tidy, twists-tidy}
+use Rattle.scr_sq1solve.proofs.MinimaLaws.{needs_test-iff}
 use Rattle.std.proofs.lemmas.Bool.{false≢true}
-use Rattle.std.proofs.lemmas.Int.{ints, to_z-of_z}
-use Rattle.std.proofs.lemmas.List.{ext_get_or, get_or-map, get_or_read, length-map}
-use Rattle.std.proofs.lemmas.List.Elements.{All-weaker}
-use Rattle.std.proofs.lemmas.Nat.{mod_below}
 
 pub ruleset exact_draw = (needs_test-iff)
 
-pub ruleset turned_by_number = (after-twist, after-number, ints, after-amounts)
-
-pub ruleset pieces_at = (at-permutation, codes_one_to_one, larger-lt, pair-lt, turned-lt, pieces-are)
-
-pub ruleset moved_pieces = (IsPermutation-pick, places_in)
-
-pub ruleset carried_pairing = (ext_get_or, get_or-map, length-map, at-permutation, IsPairing-carried)
-
-pub ruleset code_of = (All-permutation, All-pick, All-from_test)
-
-pub ruleset pairs_of = (permutation_number-lt, length-pick)
-
-pub ruleset first_turn = (ints, turn_word-same)
-
-pub ruleset push_layers = (to_z-of_z, still-written, layers-written, layers-permitted-by)
-
-pub ruleset shape_moves_after = (by_letters-played, letter-index)
-
-pub ruleset part_of_shape_moves = (part-seen, parts-below)
-
-pub ruleset turned = (layers-index)
-
-pub ruleset shape_moves_build = (StaysBelow-shapes)
-
 pub ruleset joined = (count_in-append, twists-tidy, length-tidy, IsTidy-sq1)
 
-pub ruleset pairing_lists_new = (StaysBelow-pairing_lists)
-
 pub ruleset walked = (false≢true)
-
-pub ruleset code_lists_new = (All-weaker, StaysBelow-code_lists)
-
-pub ruleset state_of = (state-of_index)
-
-pub ruleset shape_states_after = (part-made, still-parts, still-index)
-
-pub ruleset state_at = (get_or_read, length-each_below, each_below-at)
-
-pub ruleset shape_states_build = (each_below-none, each_below-more, StaysBelow-parts)
-
-pub ruleset shapes_index = (mod_below)

@@ -1,20 +1,17 @@
--- Letters as words: how they are put together turn by turn, and how many turns and twists they have, and tidied words.
+-- How many turns and twists letters and tidied words have.
 use Rattle.std.proofs.Common.{◌≡◌, true, false, IsTrue, List, [], ◌∷◌, ◌++◌, refl, sym, ap, ◌∙◌, ℕ, ◌+◌, ◌*◌, ◌≤◌, Bool, cond, map, length, Option, Some, None, arith}
-use Rattle.std.specs.Prelude.{ℕ, ℤ, pos, negsuc, ◌%◌, nat_lt, flat_map, reverse, ◌/◌, ◌==◌, ◌-ℤ◌, ◌+ℤ◌, neg_ℤ, All}
-use Rattle.std.proofs.lemmas.Bool.{cond-true, cond-false, false≢true}
-use Rattle.std.proofs.lemmas.List.{append-nil, length-append, reverse-append}
+use Rattle.std.specs.Prelude.{ℕ, ℤ, pos, ◌%◌, nat_lt, reverse, ◌/◌, ◌==◌, ◌-ℤ◌, ◌+ℤ◌, neg_ℤ, All}
+use Rattle.std.proofs.lemmas.Bool.{false≢true}
+use Rattle.std.proofs.lemmas.List.{length-append, reverse-append}
 use Rattle.scr_notation.specs.declared.event.Event.TheVariants.{Sq1}
 use Rattle.scr_notation.specs.declared.turn.Turn.{Turn}
 use Rattle.scr_notation.specs.declared.turn.Turn.TheVariants.{Layers, Face, Twist}
 use Rattle.scr_notation.specs.Layers.{twelfths, are_still, is_layer_turn}
 use Rattle.scr_notation.specs.Turns.{permits}
-use Rattle.scr_notation.specs.Written.{Written}
-use Rattle.scr_notation.proofs.LayersLaws.{AreTwelfths-twelfths, layers_of_parts}
-use Rattle.scr_sq1solve.specs.Stages.{turn_word, quarter_word, shape_letter, pairing_letter, home_letter, edge_word, corner_word, quarters, squaring_letter}
-use Rattle.scr_sq1solve.specs.Letters.{first_word, step_word, letter_of, each_of}
-use Rattle.scr_sq1solve.specs.declared.stage_letters.Letters.TheVariants.{OfShapes, OfPairings, OfHome, Squarings, Quarters}
-use Rattle.scr_sq1solve.specs.declared.stage_letters.Step.{Step}
-use Rattle.scr_sq1solve.specs.declared.stage_letters.Step.TheVariants.{Turned, Twisted}
+use Rattle.scr_sq1tables.specs.Stages.{turn_word, quarter_word, shape_letter, pairing_letter, home_letter, quarters, squaring_letter}
+use Rattle.scr_sq1tables.specs.Letters.{letter_of}
+use Rattle.scr_sq1solve.specs.Walks.{each_of}
+use Rattle.scr_sq1tables.specs.declared.stage_letters.StageLetters.TheVariants.{OfShapes, OfPairings, OfHome, Squarings, Quarters}
 use Rattle.std.proofs.lemmas.List.Elements.{All-nil, All-cons, All-head, All-tail}
 use Rattle.scr_combinatorics.specs.Play.{play, count_in}
 use Rattle.scr_combinatorics.specs.Back.{back}
@@ -24,90 +21,9 @@ use Rattle.scr_combinatorics.proofs.TidyLaws.{IsTidy-apart, IsTidy-rest, IsTidy-
 use Rattle.scr_notation.specs.Turning.{opposite, are_alike, turns_merged, turn_merging}
 use Rattle.scr_notation.proofs.MergingLaws.{IsMerging-event}
 use Rattle.scr_sq1.specs.Units.{Sq1State, sq1_after}
-use Rattle.scr_sq1.proofs.Lawful.{sq1_after-layers}
-use Rattle.scr_sq1solve.specs.declared.stage_letters.Letters.{Letters}
+use Rattle.scr_sq1.proofs.NumberedTurns.{is_layer_turn-after}
+use Rattle.scr_sq1tables.specs.declared.stage_letters.StageLetters.{StageLetters}
 use Rattle.scr_sq1solve.specs.Counts.{twists_of, twists_in, Costs}
-
--- ---- turns of the layers
-
--- the amounts of a turn, modulo 12, are those of one, unless neither layer is turned
-pub layers-permitted : (x y : ℤ) → are_still (twelfths x) (twelfths y) ≡ false
-    → IsTrue (is_layer_turn (Layers (twelfths x) (twelfths y)))
-layers-permitted x y some =
-    layers_of_parts (twelfths x) (twelfths y)
-    (record { top_within = (AreTwelfths-twelfths x).within; bottom_within = (AreTwelfths-twelfths y).within; some = some })
-
-pub turn_word-some : (x y : ℤ) → are_still (twelfths x) (twelfths y) ≡ false
-    → turn_word x y ≡ Layers (twelfths x) (twelfths y) ∷ []
-unfolding turn_word
-turn_word-some x y some = cond-false (are_still (twelfths x) (twelfths y)) [] (Layers (twelfths x) (twelfths y) ∷ []) some
-
-pub turn_word-none : (x y : ℤ) → are_still (twelfths x) (twelfths y) ≡ true → turn_word x y ≡ []
-unfolding turn_word
-turn_word-none x y still = cond-true (are_still (twelfths x) (twelfths y)) [] (Layers (twelfths x) (twelfths y) ∷ []) still
-
--- ---- letters by their first turn and their later steps
-
-pub turn_word-same : {x y a b : ℤ} → x ≡ a → y ≡ b → turn_word x y ≡ turn_word a b
-turn_word-same {x} {y} {a} {b} top bottom = ap (λ z. turn_word z y) top ∙ ap (turn_word a) bottom
-
-abbrev steps : List Step → List Turn
-steps later = flat_map step_word later
-
-pub shape-steps : (n : ℕ) → shape_letter n ≡ first_word OfShapes n ++ steps (Twisted ∷ [])
-unfolding shape_letter
-shape-steps n = refl
-
-pub pairing-low : (n : ℕ) → nat_lt n 16 ≡ true
-    → pairing_letter n ≡ first_word OfPairings n ++ steps (Twisted ∷ Turned (pos 0) (pos 1) ∷ [])
-unfolding pairing_letter turn_word
-pairing-low n e = cond-true (nat_lt n 16) _ _ e ∙ ap (λ w. w ++ steps (Twisted ∷ Turned (pos 0) (pos 1) ∷ [])) (sym (cond-true (nat_lt n 16) _ _ e))
-
-pub pairing-high : (n : ℕ) → nat_lt n 16 ≡ false
-    → pairing_letter n ≡ first_word OfPairings n ++ steps (Twisted ∷ Turned (negsuc 0) (pos 0) ∷ [])
-unfolding pairing_letter turn_word
-pairing-high n e = cond-false (nat_lt n 16) _ _ e ∙ ap (λ w. w ++ steps (Twisted ∷ Turned (negsuc 0) (pos 0) ∷ [])) (sym (cond-false (nat_lt n 16) _ _ e))
-
-pub home-low : (n : ℕ) → nat_lt n 16 ≡ true → home_letter n
-    ≡ first_word OfHome n ++ steps (Turned (pos 0) (negsuc 0) ∷ Twisted ∷ Turned (pos 1) (pos 1) ∷ Twisted ∷ Turned (negsuc 0) (pos 0) ∷ [])
-unfolding home_letter turn_word
-home-low n e = ap (λ w. quarter_word (n % 16) ++ w) (cond-true (nat_lt n 16) edge_word corner_word e)
-
-pub home-high : (n : ℕ) → nat_lt n 16 ≡ false → home_letter n
-    ≡ first_word OfHome n ++ steps (Turned (pos 0) (negsuc 0) ∷ Twisted ∷ Turned (negsuc 1) (negsuc 1) ∷ Twisted ∷ Turned (pos 2) (pos 3) ∷ [])
-unfolding home_letter turn_word
-home-high n e = ap (λ w. quarter_word (n % 16) ++ w) (cond-false (nat_lt n 16) edge_word corner_word e)
-
--- ---- letters that are written turn by turn
-
-abbrev pub written : List Turn → Written
-written turns = record { event = Sq1; turns = turns }
-
--- no turn, or one, behind a word
-pub still-written : (v : Written) (x y a b : ℤ) → v.event ≡ Sq1 → a ≡ twelfths x → b ≡ twelfths y → are_still a b ≡ true
-    → v ≡ written (v.turns ++ turn_word x y)
-still-written v x y a b event top bottom still =
-    let is : are_still (twelfths x) (twelfths y) ≡ true = sym (ap (λ z. are_still z b) top ∙ ap (are_still (twelfths x)) bottom) ∙ still in
-    let none = turn_word-none x y is in
-    let whole = append-nil v.turns in
-    let same : (let w : Written = record { event = v.event; turns = v.turns } in w ≡ written (v.turns ++ turn_word x y)) = cc in
-    same
-
-pub layers-written : (v w : Written) (x y a b : ℤ) → v.event ≡ Sq1 → a ≡ twelfths x → b ≡ twelfths y
-    → are_still a b ≡ false → w ≡ record { event = v.event; turns = v.turns ++ Layers a b ∷ [] }
-    → w ≡ written (v.turns ++ turn_word x y)
-layers-written v w x y a b event top bottom some made =
-    let is : are_still (twelfths x) (twelfths y) ≡ false = sym (ap (λ z. are_still z b) top ∙ ap (are_still (twelfths x)) bottom) ∙ some in
-    let one = turn_word-some x y is in
-    cc
-
-pub layers-permitted-by : (v : Written) (x y a b : ℤ) → v.event ≡ Sq1 → a ≡ twelfths x → b ≡ twelfths y
-    → are_still a b ≡ false → IsTrue (permits v.event (Layers a b))
-layers-permitted-by v x y a b event top bottom some =
-    let is : are_still (twelfths x) (twelfths y) ≡ false = sym (ap (λ z. are_still z b) top ∙ ap (are_still (twelfths x)) bottom) ∙ some in
-    ap (λ e. permits e (Layers a b)) event
-    ∙ ap (λ z. is_layer_turn (Layers z b)) top ∙ ap (λ z. is_layer_turn (Layers (twelfths x) z)) bottom
-    ∙ layers-permitted x y is
 
 -- ---- turns and twists of letters
 
@@ -146,7 +62,7 @@ three a b c d = let whole = Costs-append (Costs-turn_word a b) (Costs-append Cos
 five : (a b c d e f : ℤ) → Costs (turn_word a b ++ Twist ∷ turn_word c d ++ Twist ∷ turn_word e f) 5 2
 five a b c d e f = let whole = Costs-append (three a b c d) (Costs-append Costs-twist (Costs-turn_word e f)) in whole
 
-pub Costs-letter : (letters : Letters) (n : ℕ)
+pub Costs-letter : (letters : StageLetters) (n : ℕ)
     → Costs (letter_of letters n) (each_of letters).turns (each_of letters).twists
 unfolding shape_letter pairing_letter quarter_word home_letter squaring_letter
 Costs-letter OfShapes n = let whole = Costs-append (Costs-turn_word (pos (n / 12) -ℤ pos 5) (pos (n % 12) -ℤ pos 5)) Costs-twist in whole
@@ -200,12 +116,6 @@ twists-tidy (t ∷ w) = omega (arith, twists-with_turn t (tidy turn_merging w), 
 -- turns of the layers, and twists
 abbrev AreOfSq1 : List Turn → Type 0
 AreOfSq1 w = All (λ t. IsTrue (is_layer_turn t)) w
-
-pub is_layer_turn-after : (s r : Sq1State) (t : Turn) → sq1_after s t ≡ Some r → IsTrue (is_layer_turn t)
-unfolding sq1_after
-is_layer_turn-after s r (Layers x y) e = (sq1_after-layers s r x y e).letter
-is_layer_turn-after s r Twist e = refl
-is_layer_turn-after s r _ e = absurd (cc)
 
 -- the turns of a word that leads somewhere
 pub layer_turns-played : (s r : Sq1State) (w : List Turn) → play sq1_after s w ≡ Some r → All (λ t. IsTrue (is_layer_turn t)) w

@@ -1,8 +1,8 @@
 -- The test of a minimum is exact, and so is a search that leaves out turns of the layers right after each other, and
 -- twists.
-use Rattle.std.proofs.Common.{◌≡◌, ℕ, suc, ◌+◌, ◌%◌, ◌/◌, ◌<◌, ◌≤◌, inl, inr, Bool, true, false, IsTrue, cond, List, [], ◌∷◌, length, Option, Some, None, refl, sym, ap, ◌∙◌, subst, arith, eq-eqb, eqb-true}
-use Rattle.std.specs.Prelude.{◌↔◌, All, ◌==◌, ◌&&◌, not, nat_lt, ℤ, pos, ◌+ℤ◌, ◌-ℤ◌}
-use Rattle.std.proofs.lemmas.Bool.{cases_eq, cases_lt, cond-true, cond-false, lt-ltb, ne_eqb, and_parts, false≢true}
+use Rattle.std.proofs.Common.{◌≡◌, ℕ, suc, ◌+◌, ◌%◌, ◌<◌, ◌≤◌, inl, inr, Bool, true, false, IsTrue, List, [], ◌∷◌, length, Some, None, refl, sym, ap, ◌∙◌, subst, arith, eq-eqb, eqb-true}
+use Rattle.std.specs.Prelude.{◌↔◌, All, ◌==◌, ◌&&◌, not, nat_lt, ℤ, ◌+ℤ◌}
+use Rattle.std.proofs.lemmas.Bool.{cases_eq, cases_lt, cond-true, lt-ltb, and_parts, false≢true}
 use Rattle.scr_combinatorics.specs.Lists.{pick}
 use Rattle.scr_combinatorics.specs.Permutations.{IsPermutation}
 use Rattle.scr_combinatorics.proofs.PermutationLaws.{All-permutation}
@@ -14,22 +14,23 @@ use Rattle.scr_orbit.proofs.Minima.{count_once}
 use Rattle.scr_notation.specs.declared.event.Kind.TheVariants.{LayersAndTwist}
 use Rattle.scr_notation.specs.declared.turn.Turn.{Turn}
 use Rattle.scr_notation.specs.declared.turn.Turn.TheVariants.{Layers, Twist}
-use Rattle.scr_notation.specs.Layers.{twelfths, are_still, is_layer_turn}
+use Rattle.scr_notation.specs.Layers.{twelfths, are_still}
 use Rattle.scr_notation.specs.TurnNumbers.{layer_turn_at, turn_at}
 use Rattle.scr_notation.specs.Ranges.{same}
 use Rattle.scr_notation.proofs.LayersLaws.{are_still-first, are_still-second}
-use Rattle.scr_notation.proofs.NumberLaws.{numbered, has_turn_at}
+use Rattle.scr_notation.proofs.NumberLaws.{numbered}
 use Rattle.scr_table.specs.Moves.{after_move as number_turned, NeedsTurns, NeverHelps}
 use Rattle.scr_table.proofs.MovesLaws.{turned-turn}
 use Rattle.scr_table.proofs.StepLaws.{taken_where}
 use Rattle.scr_table.proofs.TriedWords.{needs_test-iff as tried-iff}
-use Rattle.scr_sq1.specs.Units.{Sq1State, IsSq1, is_open, after_layers, solved_sq1, clockwise, turn_places, turned, twisted, sq1_after, sq1_puzzle}
+use Rattle.scr_sq1.specs.Units.{Sq1State, IsSq1, is_open, solved_sq1, clockwise, turn_places, turned, twisted, sq1_after, sq1_puzzle}
 use Rattle.scr_sq1.proofs.Places.{IsTurnTable-turn, turn_places-both}
 use Rattle.scr_sq1.proofs.Clockwise.{clockwise-lt, clockwise-twelfths, clockwise-sum}
 use Rattle.scr_sq1.proofs.Lawful.{turned-still, sq1_after-layers, sq1_after-by_layers, sq1_after-twist, twisted-twice, IsLawful-sq1}
+use Rattle.scr_sq1.proofs.NumberedTurns.{number-after, top_of, bottom_of, twist_number, layers_number}
 use Rattle.scr_sq1solve.specs.Minima.{is_solved_sq1, sq1_moves, needs_test_sq1}
-use Rattle.scr_sq1solve.proofs.PairingStage.{same-true}
-use Rattle.scr_sq1solve.proofs.Lengths.{layers-permitted, is_layer_turn-after}
+use Rattle.scr_sq1tables.proofs.PairingStage.{same-true}
+use Rattle.scr_sq1tables.proofs.LetterWords.{layers-permitted}
 
 -- ---- solved states
 
@@ -50,11 +51,12 @@ is_solved-iff s = (λ t. solved_from s.units s.equator t, λ e. ap is_solved_sq1
 
 -- ---- turns by their numbers
 
-pub turned-number : (s : Sq1State) (n : ℕ) → length s.units ≡ 24 → n < 144
+pub after-size : (s : Sq1State) (n : ℕ) → length s.units ≡ 24 → sq1_moves.after s n ≡ sq1_after s (layer_turn_at n)
+after-size s n size = cond-true (length s.units == 24) (sq1_after s (layer_turn_at n)) None (eq-eqb (length s.units) 24 size)
+
+turned-number : (s : Sq1State) (n : ℕ) → length s.units ≡ 24 → n < 144
     → number_turned sq1_moves s n ≡ sq1_after s (layer_turn_at n)
-turned-number s n size lt =
-    cond-true (nat_lt n 144) (cond (length s.units == 24) (sq1_after s (layer_turn_at n)) None) None (lt-ltb n 144 lt)
-    ∙ cond-true (length s.units == 24) (sq1_after s (layer_turn_at n)) None (eq-eqb (length s.units) 24 size)
+turned-number s n size lt = cond-true (nat_lt n 144) (sq1_moves.after s n) None (lt-ltb n 144 lt) ∙ after-size s n size
 
 record IsMoved (s r : Sq1State) (n : ℕ) : Type 0 where
   pub below : n < 144
@@ -66,20 +68,6 @@ IsMoved-turned s r n e =
     let a = turned-turn sq1_moves s r n e in
     let b = taken_where (length s.units == 24) (sq1_after s (layer_turn_at n)) r a.1 in
     record { below = a.0; size = eqb-true (length s.units) 24 b.0; made = b.1 }
-
-abbrev pub top_of : ℕ → ℤ
-top_of n = pos (n / 12) -ℤ pos 5
-
-abbrev pub bottom_of : ℕ → ℤ
-bottom_of n = pos (n % 12) -ℤ pos 5
-
-twist_number : layer_turn_at 65 ≡ Twist
-unfolding layer_turn_at
-twist_number = refl
-
-layers_number : (n : ℕ) → (n ≡ 65 → ⊥) → layer_turn_at n ≡ Layers (top_of n) (bottom_of n)
-unfolding layer_turn_at
-layers_number n apart = cond-false (n == 65) Twist (Layers (top_of n) (bottom_of n)) (ne_eqb n 65 apart)
 
 -- ---- two turns of the layers, or two twists, right after each other
 
@@ -124,8 +112,8 @@ NeverHelps-idle first second alike = λ s r q e f.
     elim (cases_eq first 65) [
       | inl is ↦
           let other : second ≡ 65 = eqb-true second 65 (sym alike ∙ eq-eqb first 65 is) in
-          let one : sq1_after s Twist ≡ Some r = sym (ap (sq1_after s) (ap layer_turn_at is ∙ twist_number)) ∙ a.made in
-          let two : sq1_after r Twist ≡ Some q = sym (ap (sq1_after r) (ap layer_turn_at other ∙ twist_number)) ∙ b.made in
+          let one : sq1_after s Twist ≡ Some r = sym (ap (sq1_after s) (twist_number first is)) ∙ a.made in
+          let two : sq1_after r Twist ≡ Some q = sym (ap (sq1_after r) (twist_number second other)) ∙ b.made in
           by_none s q (sq1_after-twist r q two ∙ ap twisted (sq1_after-twist s r one) ∙ twisted-twice s a.size)
       | inr apart ↦
           let other : second ≡ 65 → ⊥ = λ is. apart (eqb-true first 65 (alike ∙ eq-eqb second 65 is)) in
@@ -144,12 +132,11 @@ NeverHelps-idle first second alike = λ s r q e f.
 
 numbers-of : (w : List Turn) (s end : Sq1State) → IsSq1 s → play sq1_after s w ≡ Some end
     → (ns : List ℕ) × (length ns ≡ length w) × (play (number_turned sq1_moves) s ns ≡ Some end)
-unfolding turn_at
 numbers-of [] s end valid e =
     ([], refl, play-empty (number_turned sq1_moves) s ∙ sym (play-empty sq1_after s) ∙ e)
 numbers-of (t ∷ w) s end valid e =
     let parts = play-parts sq1_after s end t w e in
-    let n = numbered LayersAndTwist t tt (is_layer_turn-after s parts.0 t parts.1) in
+    let n = number-after s parts.0 t parts.1 in
     let rest = numbers-of w parts.0 end (IsLawful-sq1.keeps s parts.0 t valid parts.1) parts.2 in (
       n.0 ∷ rest.0,
       ap suc rest.1,
@@ -186,23 +173,3 @@ needs_test-iff s least valid =
     let tried = tried-iff 144 (number_turned sq1_moves) is_solved_sq1 (λ r q t e. (turned-turn sq1_moves r q t e).0) s least in
     let same = NeedsTurns-iff s least valid in
     (λ t. same.0 (tried.0 t), λ needs. tried.1 (same.1 needs))
-
--- ---- the moves, as the code makes them
-
-pub after-twist : (s r : Sq1State) (n : ℕ) → IsSq1 s → n ≡ 65 → r ≡ twisted s → Some r ≡ sq1_moves.after s n
-unfolding sq1_after
-after-twist s r n valid is made =
-    ap Some made
-    ∙ sym (cond-true (length s.units == 24) (sq1_after s (layer_turn_at n)) None (eq-eqb (length s.units) 24 valid.size)
-    ∙ ap (sq1_after s) (ap layer_turn_at is ∙ twist_number))
-
-pub after-number : (s : Sq1State) (n : ℕ) (o : Option Sq1State) → IsSq1 s → n < 144 → (n ≡ 65 → ⊥)
-    → o ≡ after_layers s (top_of n) (bottom_of n) → o ≡ sq1_moves.after s n
-unfolding sq1_after turn_at
-after-number s n o valid lt apart made =
-    let letter : IsTrue (is_layer_turn (Layers (top_of n) (bottom_of n))) =
-    subst (λ t. IsTrue (is_layer_turn t)) (layers_number n apart) (has_turn_at LayersAndTwist n tt lt) in
-    made
-    ∙ sym (cond-true (length s.units == 24) (sq1_after s (layer_turn_at n)) None (eq-eqb (length s.units) 24 valid.size)
-    ∙ ap (sq1_after s) (layers_number n apart)
-    ∙ cond-true (is_layer_turn (Layers (top_of n) (bottom_of n))) (after_layers s (top_of n) (bottom_of n)) None letter)

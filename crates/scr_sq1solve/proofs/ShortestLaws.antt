@@ -13,10 +13,12 @@ use Rattle.scr_notation.specs.Turning.{opposite}
 use Rattle.scr_notation.specs.Written.{Written}
 use Rattle.scr_sq1.specs.Units.{Sq1State, IsSq1, sq1_after}
 use Rattle.scr_sq1solve.specs.Counts.{twists_in, IsWithinBounds}
-use Rattle.scr_sq1solve.specs.Stages.{shape_stage, IsScrambleSq1}
-use Rattle.scr_sq1solve.specs.Totals.{shape_words, IsTotal}
+use Rattle.scr_sq1tables.specs.Stages.{shape_stage, IsScrambleSq1}
+use Rattle.scr_sq1solve.specs.Totals.{IsTotal}
+use Rattle.scr_sq1tables.specs.ShapeWords.{shape_words}
 use Rattle.scr_sq1solve.proofs.Lengths.{twists-back}
-use Rattle.scr_sq1solve.proofs.TotalLaws.{IsStageWord-listed, IsTotal-unique, IsScrambleSq1-total, IsFirstTotal-scramble}
+use Rattle.scr_sq1solve.proofs.TotalLaws.{IsTotal-unique, IsScrambleSq1-total, IsFirstTotal-scramble}
+use Rattle.scr_sq1tables.proofs.ShapeWordLaws.{IsStageWord-listed}
 use Rattle.scr_sq1solve.specs.ShortScrambles.{IsShortest, IsShortScramble}
 
 -- each total of a word has more twists than this one,

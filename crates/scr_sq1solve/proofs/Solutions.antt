@@ -19,17 +19,17 @@ use Rattle.scr_table.proofs.LineLaws.{table_of_line}
 use Rattle.scr_table.proofs.StageLaws.{end_valid, stage_word}
 use Rattle.scr_sq1.specs.Units.{Sq1State, IsSq1, solved_sq1, sq1_after, sq1_puzzle, turned, twisted}
 use Rattle.scr_sq1.proofs.Lawful.{IsSq1-reached, sq1_taken_back, sq1_kept_by_tidy, sq1_after-layers, sq1_after-twist}
-use Rattle.scr_sq1solve.specs.Stages.{shape_stage, squaring_stage, pairing_stage, home_stage, last_stage, layer_stages, equator_word, equator_stage, sq1_stages, IsScrambleSq1}
-use Rattle.scr_sq1solve.specs.Tables.{shapes_line, pairings_line, square_line, sq1_lines, shapes_index, pairings_index, square_index}
-use Rattle.scr_sq1solve.specs.Spaces.{IsNormalSq1, IsPairedSq1}
-use Rattle.scr_sq1solve.proofs.Renamed.{keeps_sq1, flipped, play-equator, play-flipped, layers-flipped}
-use Rattle.scr_sq1solve.proofs.ShapeStage.{Follows-shapes, StaysBelow-shapes}
-use Rattle.scr_sq1solve.proofs.PairingStage.{Follows-pairings, StaysBelow-pairings}
-use Rattle.scr_sq1solve.proofs.HomeStage.{Follows-square, StaysBelow-square}
+use Rattle.scr_sq1tables.specs.Stages.{shape_stage, squaring_stage, pairing_stage, home_stage, last_stage, layer_stages, equator_word, equator_stage, sq1_stages, IsScrambleSq1}
+use Rattle.scr_sq1tables.specs.Tables.{shapes_line, pairings_line, square_line, sq1_lines, shapes_index, pairings_index, square_index}
+use Rattle.scr_sq1tables.specs.Spaces.{IsNormalSq1, IsPairedSq1}
+use Rattle.scr_sq1tables.proofs.Renamed.{keeps_sq1, flipped, play-equator, play-flipped, layers-flipped}
+use Rattle.scr_sq1tables.proofs.ShapeStage.{Follows-shapes}
+use Rattle.scr_sq1tables.proofs.PairingStage.{Follows-pairings}
+use Rattle.scr_sq1tables.proofs.HomeStage.{Follows-square}
 use Rattle.scr_combinatorics.specs.Tidy.{tidy}
 use Rattle.scr_sq1solve.specs.Counts.{twists_of, twists_in, IsWithinBounds, turned_over}
-use Rattle.scr_sq1solve.specs.declared.stage_letters.Letters.{Letters}
-use Rattle.scr_sq1solve.specs.declared.stage_letters.Letters.TheVariants.{OfShapes, OfPairings, OfHome, Squarings, Quarters}
+use Rattle.scr_sq1tables.specs.declared.stage_letters.StageLetters.{StageLetters}
+use Rattle.scr_sq1tables.specs.declared.stage_letters.StageLetters.TheVariants.{OfShapes, OfPairings, OfHome, Squarings, Quarters}
 use Rattle.scr_sq1solve.proofs.Lengths.{Costs-letter, twists-tidy, length-tidy, twists-back, IsTidy-sq1, layer_turns-played}
 use Rattle.scr_notation.specs.declared.turn.Turn.TheVariants.{Layers, Twist}
 use Rattle.scr_notation.proofs.TidyingLaws.{length-back}
@@ -103,7 +103,7 @@ module _ (s : Sq1State) (valid : IsSq1 s) (w : List Turn) where
 module _ (shapes pairings square : Distances) (a : IsTableOf shapes_line shapes) (b : IsTableOf pairings_line pairings) (c : IsTableOf square_line square) where
   layers_by : (s : Sq1State) → IsSq1 s → (w : List Turn) × IsSolution sq1_after layer_stages s w
   layers_by s valid =
-      let first = stage_word sq1_after shape_stage IsSq1 shapes_line shapes_index Follows-shapes (lit≤ tt) shapes a StaysBelow-shapes s valid in
+      let first = stage_word sq1_after shape_stage IsSq1 shapes_line shapes_index Follows-shapes (lit≤ tt) shapes a s valid in
       let squared = first.1.first.leads in
       let squared_valid = end_valid sq1_after shape_stage IsSq1 shapes_line shapes_index Follows-shapes s first.0 valid first.1 in
       let turn = squared.goal in
@@ -113,13 +113,13 @@ module _ (shapes pairings square : Distances) (a : IsTableOf shapes_line shapes)
             (play-stage_word sq1_after squaring_stage squared.end turn.0 turn.1);
         normal = normal.goal;
       } in
-      let second = stage_word sq1_after pairing_stage IsNormalSq1 pairings_line pairings_index Follows-pairings (lit≤ tt) pairings b StaysBelow-pairings normal.end is_normal in
+      let second = stage_word sq1_after pairing_stage IsNormalSq1 pairings_line pairings_index Follows-pairings (lit≤ tt) pairings b normal.end is_normal in
       let paired = second.1.first.leads in
       let is_paired : IsPairedSq1 paired.end = record {
         normal = end_valid sq1_after pairing_stage IsNormalSq1 pairings_line pairings_index Follows-pairings normal.end second.0 is_normal second.1;
         paired = paired.goal;
       } in
-      let third = stage_word sq1_after home_stage IsPairedSq1 square_line square_index Follows-square (lit≤ tt) square c StaysBelow-square paired.end is_paired in
+      let third = stage_word sq1_after home_stage IsPairedSq1 square_line square_index Follows-square (lit≤ tt) square c paired.end is_paired in
       let homed = third.1.first.leads in
       let next = next_solution sq1_after in
       next shape_stage (squaring_stage ∷ pairing_stage ∷ home_stage ∷ last_stage ∷ []) s first
@@ -166,7 +166,7 @@ play-scramble s w valid h =
 pub twists-solution : (s : Sq1State) (w : List Turn) → IsSolution sq1_after sq1_stages s w → twists_in w ≤ 76
 unfolding bounds CountsWithin count_in
 twists-solution s w h =
-    let each = λ (letters : Letters) (n : ℕ). (Costs-letter letters n).twists in
+    let each = λ (letters : StageLetters) (n : ℕ). (Costs-letter letters n).twists in
     count-solution sq1_after twists_of sq1_stages (3 ∷ 1 ∷ 0 ∷ 1 ∷ 2 ∷ 0 ∷ []) s w
     ((λ n. lit≤ tt), (each OfShapes, (each Squarings, (each OfPairings, (each OfHome, (each Quarters, tt)))))) h
 

@@ -1,12 +1,5 @@
-pub mod Stages
-pub mod Tables
-pub mod Parts
-pub mod Spaces
 pub mod Counts
-pub mod Letters
-pub mod Codes
-pub mod Placed
+pub mod Walks
 pub mod Minima
 pub mod Totals
-pub mod SearchTables
 pub mod ShortScrambles

@@ -7,7 +7,8 @@ use Rattle.scr_notation.specs.declared.turn.Turn.{Turn}
 use Rattle.scr_notation.specs.Turning.{opposite}
 use Rattle.scr_sq1.specs.Units.{Sq1State}
 use Rattle.scr_sq1solve.specs.Counts.{twists_in}
-use Rattle.scr_sq1solve.specs.Totals.{shape_words, IsTotal}
+use Rattle.scr_sq1solve.specs.Totals.{IsTotal}
+use Rattle.scr_sq1tables.specs.ShapeWords.{shape_words}
 
 -- The total of one of some words has the fewest twists, and is that of the earliest among equals: each total of a word
 -- before it has more twists, and each total of a word behind it no fewer.

@@ -56,5 +56,5 @@ impl Permit<Sq1> for DrawSq1 {
         needs_sq1(state, least)
     }
 
-    fn is_exact(&self) {}
+    ghost exact = { λ event s least _ _ valid. event.exact s least valid };
 }

@@ -5,7 +5,7 @@ ghost use Rattle.scr_combinatorics.specs.Reach.{IsReached};
 ghost use Rattle.scr_sq1.specs.Units.{Sq1State, sq1_puzzle};
 ghost use Rattle.scr_sq1.specs.Numbers.{sq1_numbered};
 
-use crate::tables::Sq1Tables;
+use scr_sq1tables::Sq1Tables;
 
 /// With built tables the valid states are those that turns reach.
 pub fn reached(tables: &Sq1Tables)

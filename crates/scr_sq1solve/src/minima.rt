@@ -4,15 +4,8 @@ ghost use Rattle.scr_combinatorics.specs.Reach.{Needs};
 ghost use Rattle.scr_sq1.specs.Units.{solved_sq1, sq1_puzzle};
 ghost use Rattle.scr_sq1solve.specs.Minima.{needs_test_sq1};
 
-use scr_sq1::Sq1;
+use scr_sq1::{Sq1, TURNS, TWIST};
 use scr_table::{Moves, no_shorter};
-
-/// How many turns there are: one for each two amounts of twelfths from -5 to 6, but that the twist stands in the place
-/// of the one by which neither layer is turned.
-const TURNS: u32 = 144;
-
-/// The number of the twist.
-const TWIST: u32 = 65;
 
 /// Whether no word of fewer than `least` turns, of the layers and twists, brings a Square-1 to solved. `least` is at
 /// most 4.
@@ -40,14 +33,8 @@ impl Moves for Sq1Moves {
     }
 
     #[inline]
-    #[tactic(auto, using(crate::proofs::Cited::turned_by_number))]
     fn after(&self, state: &Sq1, turn: u32) -> Option<Sq1> {
-        state.is_valid();
-        if turn == TWIST {
-            Some(state.twist())
-        } else {
-            state.turn((turn / 12) as i8 - 5, (turn % 12) as i8 - 5)
-        }
+        state.turn_at(turn)
     }
 
     #[inline]

@@ -6,13 +6,13 @@ ghost use Rattle.scr_notation.specs.declared.turn.Turn.{Turn as Letter};
 ghost use Rattle.scr_notation.specs.Written.{IsTheScramble};
 ghost use Rattle.scr_sq1.specs.Units.{solved_sq1, sq1_after};
 ghost use Rattle.scr_sq1solve.specs.Counts.{twists_in, twists_of, IsWithinBounds};
-ghost use Rattle.scr_sq1solve.specs.Stages.{IsScrambleSq1};
+ghost use Rattle.scr_sq1tables.specs.Stages.{IsScrambleSq1};
 ghost use Rattle.scr_sq1solve.specs.ShortScrambles.{IsShortScramble};
 
-use crate::tables::Sq1Tables;
 use crate::totals::total_from;
 use scr_notation::{Scramble, Turn, inverse};
 use scr_sq1::Sq1;
+use scr_sq1tables::Sq1Tables;
 
 /// The scramble of a Square-1, of at most 76 twists and 153 turns, for which its first `short` words to the square
 /// shape are looked at, from 1 to 1,000, or all where there are fewer: of the solutions that they begin, that of the
@@ -23,7 +23,6 @@ pub fn scramble_sq1_short(tables: &Sq1Tables, state: &Sq1, short: u32) -> Scramb
     ensures the_scramble { IsTheScramble EventSq1 (IsShortScramble short) IsWithinBounds (play sq1_after solved_sq1) state.now result }
     ensures no_more { (turns : List Letter) → IsScrambleSq1 state.now turns → twists_in result.turns ≤ twists_in turns }
 {
-    state.is_valid();
     let words = tables.shape_words(state, short);
     let mut least = total_from(tables, state, words.word(0));
     for place in 1..words.len() {

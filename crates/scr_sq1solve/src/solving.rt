@@ -4,20 +4,19 @@ ghost use Rattle.scr_notation.specs.declared.event.Event.TheVariants.{Sq1 as Eve
 ghost use Rattle.scr_notation.specs.Written.{IsTheScramble};
 ghost use Rattle.scr_sq1.specs.Units.{solved_sq1, sq1_after};
 ghost use Rattle.scr_sq1solve.specs.Counts.{IsWithinBounds};
-ghost use Rattle.scr_sq1solve.specs.Stages.{IsScrambleSq1};
+ghost use Rattle.scr_sq1tables.specs.Stages.{IsScrambleSq1};
 
-use crate::tables::Sq1Tables;
 use crate::totals::total_from;
 use crate::walks::stage_word;
 use scr_notation::{Scramble, inverse};
 use scr_sq1::Sq1;
+use scr_sq1tables::Sq1Tables;
 
 /// The scramble of a Square-1, of at most 76 twists and 153 turns: its solution by the stages, in which neighbouring
 /// turns of the layers and neighbouring twists are merged, taken back. There is no refusal, and no memory is taken.
 pub fn scramble_sq1(tables: &Sq1Tables, state: &Sq1) -> Scramble
     ensures { IsTheScramble EventSq1 IsScrambleSq1 IsWithinBounds (play sq1_after solved_sq1) state.now result }
 {
-    state.is_valid();
-    let word = stage_word(&tables.shapes, state);
+    let word = stage_word(tables.shapes(), state);
     inverse(&total_from(tables, state, &word[..]))
 }

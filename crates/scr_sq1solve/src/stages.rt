@@ -1,72 +1,80 @@
 //! The stages, whose words their tables find.
-ghost use Rattle.std.specs.Prelude.{◌≡◌};
-ghost use Rattle.scr_sq1solve.specs.Letters.{index_by};
 
-use crate::indexes::{pairings_index, shapes_index, square_index};
-use crate::lines::{PairingsLine, ShapesLine, SquareLine};
-use crate::stage_letters::Letters;
 use scr_sq1::Sq1;
+use scr_sq1tables::{
+    PairingsLine, ShapesLine, SquareLine, StageLetters, pairings_index, shapes_index, square_index,
+};
 use scr_table::Line;
 
 /// A stage by the line of its table: a state's index tells the first word of its letters to its goal.
 pub(crate) trait StageLine: Line {
+    ghost use Rattle.std.specs.Prelude.{◌≡◌, ℕ};
     ghost use Rattle.scr_positions.specs.SearchSpaces.{positions, Follows};
     ghost use Rattle.scr_table.specs.StageSpaces.{stage_space};
-    ghost use Rattle.scr_sq1.specs.Units.{sq1_after};
-    ghost use Rattle.scr_sq1solve.specs.declared.stage_letters.Letters.{Letters as LettersOf};
-    ghost use Rattle.scr_sq1solve.specs.Letters.{stage_of, starts_of, index_by, IsInReach};
+    ghost use Rattle.scr_sq1.specs.Units.{Sq1State, IsSq1, sq1_after};
+    ghost use Rattle.scr_sq1tables.specs.declared.stage_letters.StageLetters.{StageLetters as LettersOf};
+    ghost use Rattle.scr_sq1tables.specs.Letters.{stage_of};
+    ghost use Rattle.scr_sq1solve.specs.Walks.{starts_of, IsInReach};
 
     /// Its letters.
     ghost LETTERS: { LettersOf };
 
-    const LETTERS: Letters;
+    const LETTERS: StageLetters;
 
-    /// What a walk down the table rests on: from a state and from its index a search finds the same, and the table
-    /// reaches no farther than the stage, whose words and letters are few. The call does nothing.
-    fn is_found_by_index()
+    /// The index by which a search for its words sees a state.
+    ghost view: { Sq1State → ℕ };
+
+    /// This index, in the table. From a state that the stage sets out from and from its index a search finds the
+    /// same, and the table reaches no farther than the stage, whose words and letters are few.
+    fn index(state: &Sq1) -> u32
+        ensures index { result ≡ view state.now }
+        ensures valid { IsSq1 state.now }
         ensures follows { Follows (stage_space sq1_after (stage_of LETTERS) (starts_of LETTERS))
-            (positions Self.line.coordinate) (index_by LETTERS) }
+            (positions Self.line.coordinate) view }
         ensures in_reach { IsInReach (stage_of LETTERS) Self.line.bound };
 }
 
 impl StageLine for ShapesLine {
-    ghost use Rattle.scr_sq1solve.specs.declared.stage_letters.Letters.TheVariants.{OfShapes};
+    ghost use Rattle.scr_sq1tables.specs.declared.stage_letters.StageLetters.TheVariants.{OfShapes};
+    ghost use Rattle.scr_sq1tables.specs.Tables.{shapes_index};
 
     ghost LETTERS = { OfShapes };
 
-    const LETTERS: Letters = Letters::OfShapes;
+    const LETTERS: StageLetters = StageLetters::OfShapes;
 
-    fn is_found_by_index() {}
+    ghost view = { shapes_index };
+
+    fn index(state: &Sq1) -> u32 {
+        shapes_index(state)
+    }
 }
 
 impl StageLine for PairingsLine {
-    ghost use Rattle.scr_sq1solve.specs.declared.stage_letters.Letters.TheVariants.{OfPairings};
+    ghost use Rattle.scr_sq1tables.specs.declared.stage_letters.StageLetters.TheVariants.{OfPairings};
+    ghost use Rattle.scr_sq1tables.specs.Tables.{pairings_index};
 
     ghost LETTERS = { OfPairings };
 
-    const LETTERS: Letters = Letters::OfPairings;
+    const LETTERS: StageLetters = StageLetters::OfPairings;
 
-    fn is_found_by_index() {}
+    ghost view = { pairings_index };
+
+    fn index(state: &Sq1) -> u32 {
+        pairings_index(state)
+    }
 }
 
 impl StageLine for SquareLine {
-    ghost use Rattle.scr_sq1solve.specs.declared.stage_letters.Letters.TheVariants.{OfHome};
+    ghost use Rattle.scr_sq1tables.specs.declared.stage_letters.StageLetters.TheVariants.{OfHome};
+    ghost use Rattle.scr_sq1tables.specs.Tables.{square_index};
 
     ghost LETTERS = { OfHome };
 
-    const LETTERS: Letters = Letters::OfHome;
+    const LETTERS: StageLetters = StageLetters::OfHome;
 
-    fn is_found_by_index() {}
-}
+    ghost view = { square_index };
 
-/// The index of a state in the table of the stage with these letters, or of the stage that these letters end.
-#[inline]
-pub(crate) fn index_by(letters: Letters, state: &Sq1) -> u32
-    ensures { result ≡ index_by letters state.now }
-{
-    match letters {
-        Letters::OfShapes | Letters::Squarings => shapes_index(state),
-        Letters::OfPairings => pairings_index(state),
-        Letters::OfHome | Letters::Quarters => square_index(state),
+    fn index(state: &Sq1) -> u32 {
+        square_index(state)
     }
 }

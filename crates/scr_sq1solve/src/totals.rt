@@ -9,14 +9,14 @@ ghost use Rattle.scr_notation.specs.declared.turn.Turn.{Turn as Letter};
 ghost use Rattle.scr_notation.specs.Turning.{opposite, turn_merging};
 ghost use Rattle.scr_sq1.specs.Units.{solved_sq1, sq1_after};
 ghost use Rattle.scr_sq1solve.specs.Counts.{twists_in, Costs, IsWithinBounds};
-ghost use Rattle.scr_sq1solve.specs.Stages.{equator_word, shape_letter, shape_stage};
-ghost use Rattle.scr_sq1solve.specs.Totals.{is_shape_word, IsTotal};
+ghost use Rattle.scr_sq1tables.specs.Stages.{equator_word, shape_letter, shape_stage};
+ghost use Rattle.scr_sq1solve.specs.Totals.{IsTotal};
+ghost use Rattle.scr_sq1tables.specs.ShapeWords.{is_shape_word};
 
-use crate::stage_letters::{Letters, equator_word};
-use crate::tables::Sq1Tables;
 use crate::walks::{Walk, end_walk, stage_walk, walked};
 use scr_notation::{Event, Scramble, push_all, tidy};
 use scr_sq1::Sq1;
+use scr_sq1tables::{Sq1Tables, StageLetters, equator_word};
 
 /// The solution that a word to the square shape begins, tidied: its total, of at most 76 twists and 153 turns. The word
 /// is told by the numbers of its letters, which are below 144, and is a shape word of the state, of at most 13 letters;
@@ -35,10 +35,10 @@ pub fn total_from(tables: &Sq1Tables, state: &Sq1, shape_word: &[u8]) -> Scrambl
 {
     state.is_valid();
     let shaped = shape_walk(state, shape_word);
-    let squared = end_walk(Letters::Squarings, &shaped.end);
-    let paired = stage_walk(&tables.pairings, &squared.end);
-    let homed = stage_walk(&tables.square, &paired.end);
-    let last = end_walk(Letters::Quarters, &homed.end);
+    let squared = end_walk(StageLetters::Squarings, &shaped.end);
+    let paired = stage_walk(tables.pairings(), &squared.end);
+    let homed = stage_walk(tables.square(), &paired.end);
+    let last = end_walk(StageLetters::Quarters, &homed.end);
     let homing = joined(&homed.turns, &last.turns);
     let pairing = joined(&paired.turns, &homing);
     let squaring = joined(&squared.turns, &pairing);
@@ -56,7 +56,7 @@ fn shape_walk(state: &Sq1, shape_word: &[u8]) -> Walk
     ensures goal { shape_stage.IsGoal result.end }
     ensures costs { Costs result.turns.turns 26 13 }
 {
-    walked(Letters::OfShapes, shape_word, state)
+    walked(StageLetters::OfShapes, shape_word, state)
 }
 
 /// The word that turns the equator alone, where it stands turned.

@@ -3,17 +3,18 @@ ghost use Rattle.std.specs.Prelude.{◌≡◌, ◌<◌, ◌≤◌, ◌↔◌, Al
 ghost use Rattle.scr_combinatorics.specs.Play.{play};
 ghost use Rattle.scr_combinatorics.specs.Stages.{IsStageWord, HasStageWord, spelled};
 ghost use Rattle.scr_notation.specs.declared.event.Event.TheVariants.{Sq1 as EventSq1};
-ghost use Rattle.scr_sq1.specs.Units.{sq1_after};
-ghost use Rattle.scr_sq1solve.specs.Letters.{stage_of, letter_of, starts_of, IsWalk, IsWithinCosts};
+ghost use Rattle.scr_positions.specs.SearchSpaces.{positions, Follows};
+ghost use Rattle.scr_table.specs.StageSpaces.{stage_space};
+ghost use Rattle.scr_sq1.specs.Units.{IsSq1, sq1_after};
+ghost use Rattle.scr_sq1tables.specs.Letters.{stage_of, letter_of};
+ghost use Rattle.scr_sq1solve.specs.Walks.{starts_of, IsInReach, IsWalk, IsWithinCosts};
 
-use crate::indexes::shapes_index;
-use crate::shape_moves::NORMAL;
-use crate::stage_letters::{Letters, letter, word_of};
-use crate::stages::{StageLine, index_by};
+use crate::stages::StageLine;
 use arrayvec::ArrayVec;
 use scr_notation::Scramble;
 use scr_sq1::Sq1;
-use scr_table::LineTable;
+use scr_sq1tables::{NORMAL, StageLetters, letter, shapes_index, word_of};
+use scr_table::{GREATEST_BOUND, LineTable};
 
 /// The turns of a word of letters, and the state where they lead.
 #[derive(Drop)]
@@ -23,12 +24,18 @@ pub(crate) struct Walk {
 }
 
 /// The first word of a stage, from a state that it starts from.
-pub(crate) fn stage_word<L: StageLine>(table: &LineTable<L>, state: &Sq1) -> ArrayVec<u8, 24>
-    requires { starts_of L.LETTERS state.now }
-    ensures { IsStageWord sq1_after (stage_of L.LETTERS) state.now result.items }
+pub(crate) fn stage_word<L: StageLine>(
+    table: &LineTable<L>,
+    state: &Sq1,
+) -> ArrayVec<u8, GREATEST_BOUND>
+    requires { IsSq1 state.now → starts_of L.LETTERS state.now }
+    ensures word { IsStageWord sq1_after (stage_of L.LETTERS) state.now result.items }
+    ensures valid { IsSq1 state.now }
+    ensures follows { Follows (stage_space sq1_after (stage_of L.LETTERS) (starts_of L.LETTERS))
+        (positions L.line.coordinate) L.view }
+    ensures in_reach { IsInReach (stage_of L.LETTERS) L.line.bound }
 {
-    L::is_found_by_index();
-    table.descend(index_by(L::LETTERS, state))
+    table.descend(L::index(state))
 }
 
 /// The turns of that word, and where they lead.
@@ -40,14 +47,13 @@ pub(crate) fn stage_walk<L: StageLine>(table: &LineTable<L>, state: &Sq1) -> Wal
     ensures kept { starts_of L.LETTERS result.end }
     ensures costs { IsWithinCosts L.LETTERS result.turns.turns }
 {
-    L::is_found_by_index();
     let word = stage_word(table, state);
     walked(L::LETTERS, &word[..], state)
 }
 
 /// The turns of a word of at most 25 letters, whose numbers are below 144, and where they lead.
 #[tactic(auto, using(crate::proofs::Cited::walked))]
-pub(crate) fn walked(letters: Letters, numbers: &[u8], state: &Sq1) -> Walk
+pub(crate) fn walked(letters: StageLetters, numbers: &[u8], state: &Sq1) -> Walk
     requires numbers { All (λ number. number < 144) numbers.now }
     requires few { length numbers.now ≤ 25 }
     requires leads { IsSome (play sq1_after state.now (spelled (letter_of letters) numbers.now)) }
@@ -63,7 +69,7 @@ pub(crate) fn walked(letters: Letters, numbers: &[u8], state: &Sq1) -> Walk
 }
 
 /// The word of a stage of one letter at most, which is found by trying: the first letter that leads to the goal.
-pub(crate) fn end_walk(letters: Letters, state: &Sq1) -> Walk
+pub(crate) fn end_walk(letters: StageLetters, state: &Sq1) -> Walk
     requires short { (stage_of letters).bound ≡ 1 }
     requires word { HasStageWord sq1_after (stage_of letters) state.now }
     ensures event { result.turns.event ≡ EventSq1 }
@@ -83,27 +89,26 @@ pub(crate) fn end_walk(letters: Letters, state: &Sq1) -> Walk
 }
 
 /// How many letters there are.
-fn letter_count(letters: Letters) -> u8
+fn letter_count(letters: StageLetters) -> u8
     ensures value { result ≡ (stage_of letters).letters }
     ensures few { result ≤ 144 }
 {
     match letters {
-        Letters::OfShapes => 144,
-        Letters::OfPairings | Letters::OfHome => 32,
-        Letters::Squarings => 4,
-        Letters::Quarters => 16,
+        StageLetters::OfShapes => 144,
+        StageLetters::OfPairings | StageLetters::OfHome => 32,
+        StageLetters::Squarings => 4,
+        StageLetters::Quarters => 16,
     }
 }
 
 /// Whether a stage of one letter at most has ended: the state is normal, or the layers are solved.
-fn is_ended(letters: Letters, state: &Sq1) -> bool
+fn is_ended(letters: StageLetters, state: &Sq1) -> bool
     requires { (stage_of letters).bound ≡ 1 }
     ensures { IsTrue result ↔ (stage_of letters).IsGoal state.now }
 {
-    let units = state.units();
     match letters {
-        Letters::Squarings => shapes_index(state) == NORMAL,
-        Letters::Quarters => units == Sq1::solved().units(),
-        Letters::OfShapes | Letters::OfPairings | Letters::OfHome => unreachable!(),
+        StageLetters::Squarings => shapes_index(state) == NORMAL,
+        StageLetters::Quarters => state.units() == Sq1::solved().units(),
+        StageLetters::OfShapes | StageLetters::OfPairings | StageLetters::OfHome => unreachable!(),
     }
 }

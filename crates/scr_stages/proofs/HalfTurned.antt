@@ -137,7 +137,7 @@ play-reversed after IsValid keeps undoes s r (t ∷ w) h e =
 pub IsHalfTurned-half_cube : (table : Distances) → Measures halves_coordinate table → (c : CubeState) → IsHalfCube c
     → IsHalfTurned c
 IsHalfTurned-half_cube table m c h =
-    let found = first_word halves_coordinate StaysBelow-halves table m (half_cubes.number_of c) (half_cubes-numbered.one_to_one.below c h) in
+    let found = first_word halves_coordinate table m (half_cubes.number_of c) (half_cubes-numbered.one_to_one.below c h) in
     let leads =
     ((FindsTheSame-follows halves_table.space (positions halves_coordinate) half_cubes.number_of Follows-halves).words c
     found.0 h).1 found.1.leads in (

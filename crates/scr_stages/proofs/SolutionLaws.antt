@@ -25,8 +25,8 @@ use Rattle.scr_stages.specs.Stages.{stages, IsHalfTurned, IsStageScramble, slice
 use Rattle.scr_stages.specs.Numbers.{flips_number, slice_number, tetrads_number, half_cubes, IsUnflippedCube, IsDominoCube, IsHalfCube}
 use Rattle.scr_stages.specs.Tables.{flips_line, slice_line, tetrads_line, halves_line, stage_lines}
 use Rattle.scr_stages.proofs.StageSpaces.{Follows-flips, Follows-unflipped}
-use Rattle.scr_stages.proofs.HalfTurned.{IsHalfCube-half_turned, Follows-halves, StaysBelow-halves, tetrads_number-half_turned}
-use Rattle.scr_stages.proofs.StageWords.{StaysBelow-flips, StaysBelow-slice, StaysBelow-tetrads, Follows-half_turned}
+use Rattle.scr_stages.proofs.HalfTurned.{IsHalfCube-half_turned, Follows-halves, tetrads_number-half_turned}
+use Rattle.scr_stages.proofs.StageWords.{Follows-half_turned}
 
 -- turns keep a cube valid
 pub IsCube-played : (c d : CubeState) (turns word : List ℕ) → IsCube c → play (after_of turns) c word ≡ Some d
@@ -65,22 +65,21 @@ solution tables built c h =
     let of_tetrads = table tetrads_line (2, lit< tt, refl) in
     let of_halves = table halves_line (3, lit< tt, refl) in
     let by_table = stage_word (after_letter cube_powers) in
-    let flips = by_table flips_stage IsCube flips_line flips_number Follows-flips (lit≤ tt) of_flips.0 of_flips.1 StaysBelow-flips c h in
+    let flips = by_table flips_stage IsCube flips_line flips_number Follows-flips (lit≤ tt) of_flips.0 of_flips.1 c h in
     let first = flips.1.first.leads in
     let second_valid : IsUnflippedCube first.end =
     record { cube = IsCube-played c first.end turn_numbers flips.0 h first.played; no_flips = first.goal } in
     let slice =
-    by_table slice_stage IsUnflippedCube slice_line slice_number Follows-unflipped (lit≤ tt) of_slice.0 of_slice.1 StaysBelow-slice first.end second_valid in
+    by_table slice_stage IsUnflippedCube slice_line slice_number Follows-unflipped (lit≤ tt) of_slice.0 of_slice.1 first.end second_valid in
     let second = slice.1.first.leads in
     let third_valid : IsDominoCube second.end =
     record { cube = IsCube-played first.end second.end slice_turns slice.0 second_valid.cube second.played; domino = second.goal } in
     let tetrads =
     by_table tetrads_stage IsDominoCube tetrads_line tetrads_number (Follows-half_turned of_halves.0 of_halves.1) (lit≤ tt)
-    of_tetrads.0 of_tetrads.1 StaysBelow-tetrads second.end third_valid in
+    of_tetrads.0 of_tetrads.1 second.end third_valid in
     let third = tetrads.1.first.leads in
     let halves =
-    by_table halves_stage IsHalfCube halves_line half_cubes.number_of Follows-halves (lit≤ tt) of_halves.0 of_halves.1 StaysBelow-halves
-    third.end (IsHalfCube-half_turned third.end third.goal) in
+    by_table halves_stage IsHalfCube halves_line half_cubes.number_of Follows-halves (lit≤ tt) of_halves.0 of_halves.1 third.end (IsHalfCube-half_turned third.end third.goal) in
     let next = next_solution (after_letter cube_powers) in
     next flips_stage (slice_stage ∷ tetrads_stage ∷ halves_stage ∷ []) c flips
     (next slice_stage (tetrads_stage ∷ halves_stage ∷ []) first.end slice

@@ -1,4 +1,4 @@
--- What the tables of the stages are of: turns lead from positions to positions.
+-- The turns of a domino, and where half turns lead from it.
 use Rattle.std.proofs.Common.{◌≡◌, ◌<◌, map, subst}
 use Rattle.std.specs.Prelude.{All, slice_get}
 use Rattle.std.proofs.lemmas.List.Elements.{All-map}
@@ -16,29 +16,16 @@ use Rattle.scr_table.specs.Lines.{IsTableOf}
 use Rattle.scr_cube.specs.Cube333.{solved_cube}
 use Rattle.scr_cube.specs.ListedTurns.{after_of, cube_space}
 use Rattle.scr_stages.specs.Stages.{IsHalfTurned, domino_turns}
-use Rattle.scr_stages.specs.Numbers.{flips_number, slice_number, tetrads_number, IsDominoCube}
-use Rattle.scr_stages.specs.SearchTables.{flips_table, slice_table, tetrads_table}
-use Rattle.scr_stages.specs.Tables.{turns_of, corners_by, edges_by, outer_places, block_turn, flips_coordinate, slice_coordinate, tetrads_coordinate, halves_line}
+use Rattle.scr_stages.specs.Numbers.{tetrads_number, IsDominoCube}
+use Rattle.scr_stages.specs.Tables.{turns_of, corners_by, edges_by, outer_places, block_turn, tetrads_coordinate, halves_line}
 use Rattle.scr_stages.specs.Tetrads.{corner_index, corners_at, tetrads_view}
 use Rattle.scr_stages.proofs.DominoLaws.{IsPermutation-outer}
 use Rattle.scr_stages.proofs.TurnFacts.{tetrads_each, All-block_turns}
 use Rattle.scr_stages.proofs.TetradTests.{corners_indexed}
 use Rattle.scr_stages.proofs.TetradLaws.{corner_index-lt}
-use Rattle.scr_stages.proofs.ViewLaws.{Follows-goals, StaysBelow-each}
-use Rattle.scr_stages.proofs.StageSpaces.{Follows-flips, Follows-slice, Follows-tetrads}
+use Rattle.scr_stages.proofs.ViewLaws.{Follows-goals}
+use Rattle.scr_stages.proofs.StageSpaces.{Follows-tetrads}
 use Rattle.scr_stages.proofs.HalfTurned.{tetrads_number-half_turned}
-use Rattle.scr_stages.proofs.EachIndex.{each-flips, each-slice, each-tetrads}
-
--- ---- turns lead from positions to positions
-
-pub StaysBelow-flips : StaysBelow flips_coordinate
-StaysBelow-flips = StaysBelow-each flips_table.space flips_coordinate flips_number Follows-flips each-flips
-
-pub StaysBelow-slice : StaysBelow slice_coordinate
-StaysBelow-slice = StaysBelow-each slice_table.space slice_coordinate slice_number Follows-slice each-slice
-
-pub StaysBelow-tetrads : StaysBelow tetrads_coordinate
-StaysBelow-tetrads = StaysBelow-each tetrads_table.space tetrads_coordinate tetrads_number Follows-tetrads each-tetrads
 
 -- ---- the turns of a domino
 

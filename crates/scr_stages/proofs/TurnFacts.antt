@@ -14,7 +14,7 @@ use Rattle.scr_notation.specs.TurnNumbers.{face_turn_at}
 use Rattle.scr_coord.specs.Projections.{marked_places, stands_in}
 use Rattle.scr_cube.specs.Cube333.{CubeState, IsCube, cube_monoid, cube_powers, solved_cube}
 use Rattle.scr_cube.proofs.Laws333.{lawful_cube}
-use Rattle.scr_cube.proofs.ListedTurns.{length-turns, after_of-is}
+use Rattle.scr_cube.proofs.ListedTurns.{length-turns, turn-leads, after_of-is}
 use Rattle.scr_orbit.proofs.TableTests.{All-from_test}
 use Rattle.scr_stages.proofs.FiniteTests.{at_element}
 use Rattle.scr_stages.specs.Stages.{middle_edges, half_turns, slice_turns, domino_turns}
@@ -24,13 +24,6 @@ use Rattle.scr_stages.specs.Tables.{turns_of, edges_by, block_turn}
 use Rattle.scr_stages.specs.Tetrads.{in_block, shared_axis, axes_of, relation_number, relation_of, corner_index}
 
 -- ---- the turn at a place of a list
-
-after_number : (c : CubeState) (t : ℕ) → t < 18
-    → (after_letter cube_powers) c (face_turn_at t) ≡ Some (cube_monoid.turned c (slice_index_or (all_turns cube_powers) t solved_cube))
-unfolding all_turns
-after_number c t lt =
-    ap (option_map (cube_monoid.turned c)) (sym (lawful_cube.numbered t)
-    ∙ slice_get-get_or (all_turns cube_powers) t solved_cube (omega (arith, length-turns)))
 
 pub after_of-turns : (numbers : List ℕ) → All (λ t. t < 18) numbers → (c : CubeState) (place : ℕ)
     → after_of numbers c place ≡ option_map (cube_monoid.turned c) (slice_get (turns_of numbers) place)
@@ -43,7 +36,7 @@ after_of-turns numbers below c place =
         → option_and_then (λ t. (after_letter cube_powers) c (face_turn_at t)) o
         ≡ option_map (cube_monoid.turned c) (option_map (λ t. slice_index_or (all_turns cube_powers) t solved_cube) o)
     by None h = refl
-    by (Some t) h = after_number c t (h t refl)
+    by (Some t) h = turn-leads c t (h t refl)
 
 -- ---- lists of turns
 

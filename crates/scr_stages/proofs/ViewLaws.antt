@@ -3,13 +3,13 @@
 use Rattle.std.proofs.Common.{◌≡◌, ℕ, ◌<◌, Bool, true, false, cond, List, map, length, Option, Some, None, refl, sym, ap, ◌∙◌, subst}
 use Rattle.std.specs.Prelude.{All, nat_lt, slice_get, ◌↔◌}
 use Rattle.std.specs.Option.{option_map}
-use Rattle.std.proofs.lemmas.Bool.{eq-eqb, eqb-true, ltb-false, lt-ltb}
+use Rattle.std.proofs.lemmas.Bool.{eq-eqb, eqb-true, ltb-false}
 use Rattle.std.proofs.lemmas.Option.{slice_get-map, slice_get_past}
 use Rattle.scr_combinatorics.proofs.PlayLaws.{map-some}
 use Rattle.scr_orbit.specs.Orbits.{Orbit}
 use Rattle.scr_orbit.proofs.PowerLaws.{All-got}
-use Rattle.scr_positions.specs.Coordinates.{Coordinate, StaysBelow, moved}
-use Rattle.scr_positions.specs.SearchSpaces.{SearchSpace, positions, Follows}
+use Rattle.scr_positions.specs.Coordinates.{Coordinate}
+use Rattle.scr_positions.specs.SearchSpaces.{positions, Follows}
 use Rattle.scr_coord.specs.Projections.{ListView, projection}
 use Rattle.scr_coord.proofs.ListViews.{IsListView}
 
@@ -98,12 +98,3 @@ Follows-fewer IsValid IsFewer IsGoal after c view are kept f = record {
   turned = λ s t h. f.turned s t (are s h);
   goals = λ s h. f.goals s (are s h);
 }
-
--- Where each position is that of a state which goes along with turns, these lead from positions to positions.
-pub StaysBelow-each : {S : Type 0} (space : SearchSpace S) (c : Coordinate) (view : S → ℕ) → Follows space (positions c) view
-    → ((i : ℕ) → i < c.count → (s : S) × space.IsValid s × (view s ≡ i)) → StaysBelow c
-StaysBelow-each space c view f each p t q at turn e =
-    let s = each p at in
-    let found = map-some view (space.after s.0 t) q
-    (sym (f.turned s.0 t s.1) ∙ ap (λ k. moved c k t) s.2 ∙ ap (λ b. cond b (c.after p t) None) (lt-ltb t c.turns turn) ∙ e) in
-    subst (λ k. k < c.count) found.2 (f.valid found.0 (f.kept s.0 found.0 t s.1 found.1))

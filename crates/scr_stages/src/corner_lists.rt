@@ -92,7 +92,4 @@ impl<V: CornerNumbers> Coord for CornerLists<'_, V> {
     fn is_goal(&self, position: u32) -> bool {
         position == V::number_of(&SOLVED)
     }
-
-    #[inline]
-    fn stays_below(&self) {}
 }

@@ -22,7 +22,6 @@ use std::alloc::Global;
 
 /// The moves of the corners, of each block of edges, and the parities of lists of four, 1 where a list is odd. Together
 /// they are the coordinate of the cubes that half turns solve.
-#[derive(Drop)]
 pub(crate) struct HalfMoves {
     corners: MoveTable,
     first: MoveTable,
@@ -35,6 +34,19 @@ pub(crate) struct HalfMoves {
     ghost shows_middle: { ShowsSame (half_block_coordinate middle_edges) (moves_coordinate middle) },
     ghost parities: { (k : ℕ) → k < 24 → slice_index odd k ≡ parity (permutation_at 4 k) } by { Prim.hlevel props },
     ghost stays: { StaysBelow halves_coordinate } by { Prim.hlevel props },
+}
+
+// By hand, so that the proof of whoever lets one go meets one call, and not the letting go of each of its parts.
+impl Drop for HalfMoves {
+    fn drop(self) {
+        let HalfMoves {
+            corners: _,
+            first: _,
+            second: _,
+            middle: _,
+            odd: _,
+        } = self;
+    }
 }
 
 /// The moves of a block of edges, among whose places half turns carry its edges.
@@ -130,7 +142,4 @@ impl Coord for HalfMoves {
     fn is_goal(&self, position: u32) -> bool {
         position == 0
     }
-
-    #[inline]
-    fn stays_below(&self) {}
 }

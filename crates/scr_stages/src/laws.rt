@@ -10,7 +10,4 @@ use crate::tables::StageTables;
 /// With built tables the valid cubes are those that turns reach.
 pub fn reached(tables: &StageTables)
     ensures { (cube : CubeState) → cube_numbered.IsValid cube ↔ IsReached (power_puzzle cube_powers) cube }
-{
-    // `all` says that they are built
-    let _built = tables.all();
-}
+{}

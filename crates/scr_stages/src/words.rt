@@ -12,9 +12,10 @@ use arrayvec::ArrayVec;
 use scr_coord::places_of;
 use scr_cube::Cube;
 use scr_rank::{Choose, TwistRank};
+use scr_table::GREATEST_BOUND;
 
 /// The word of the first stage.
-pub(crate) fn flips_word(tables: &StageTables, cube: &Cube) -> ArrayVec<u8, 24>
+pub(crate) fn flips_word(tables: &StageTables, cube: &Cube) -> ArrayVec<u8, GREATEST_BOUND>
     ensures word { IsStageWord (after_letter cube_powers) flips_stage cube.now result.items }
     ensures valid { IsCube cube.now }
 {
@@ -23,7 +24,7 @@ pub(crate) fn flips_word(tables: &StageTables, cube: &Cube) -> ArrayVec<u8, 24>
 }
 
 /// The word of the second stage, from a cube without flips.
-pub(crate) fn slice_word(tables: &StageTables, cube: &Cube) -> ArrayVec<u8, 24>
+pub(crate) fn slice_word(tables: &StageTables, cube: &Cube) -> ArrayVec<u8, GREATEST_BOUND>
     requires { IsUnflippedCube cube.now }
     ensures { IsStageWord (after_letter cube_powers) slice_stage cube.now result.items }
 {
@@ -35,7 +36,7 @@ pub(crate) fn slice_word(tables: &StageTables, cube: &Cube) -> ArrayVec<u8, 24>
 }
 
 /// The word of the third stage, from a domino.
-pub(crate) fn tetrads_word(tables: &StageTables, cube: &Cube) -> ArrayVec<u8, 24>
+pub(crate) fn tetrads_word(tables: &StageTables, cube: &Cube) -> ArrayVec<u8, GREATEST_BOUND>
     requires { IsDominoCube cube.now }
     ensures { IsStageWord (after_letter cube_powers) tetrads_stage cube.now result.items }
 {
@@ -48,7 +49,7 @@ pub(crate) fn tetrads_word(tables: &StageTables, cube: &Cube) -> ArrayVec<u8, 24
 }
 
 /// The word of the last stage, from a cube that half turns solve.
-pub(crate) fn halves_word(tables: &StageTables, cube: &Cube) -> ArrayVec<u8, 24>
+pub(crate) fn halves_word(tables: &StageTables, cube: &Cube) -> ArrayVec<u8, GREATEST_BOUND>
     requires { IsHalfCube cube.now }
     ensures { IsStageWord (after_letter cube_powers) halves_stage cube.now result.items }
 {

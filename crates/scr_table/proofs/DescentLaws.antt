@@ -4,7 +4,7 @@ use Rattle.std.proofs.Math.Bool.{Bool-set}
 use Rattle.std.proofs.Math.Logic.{∥∥₁_elim}
 use Rattle.std.proofs.lemmas.List.{append-nil}
 use Rattle.std.proofs.lemmas.Grind.{same_number_lists}
-use Rattle.scr_positions.specs.Coordinates.{Coordinate, StaysBelow, moved, IsGoal}
+use Rattle.scr_positions.specs.Coordinates.{Coordinate, moved, IsGoal}
 use Rattle.scr_combinatorics.specs.FirstWord.{IsFirstWord, IsDistance, LowersFirst}
 use Rattle.scr_combinatorics.proofs.FirstWordLaws.{IsDistance-unique, IsDistance-lowers, IsGoal-distance, IsFirstWord-goal, IsFirstWord-cons}
 use Rattle.scr_table.specs.declared.table.TheConstants.{GREATEST_BOUND}
@@ -20,7 +20,7 @@ pub record IsDescending (c : Coordinate) (table : Distances) (p : ℕ) (word : L
   pub continues : (rest : List ℕ) → IsFirstWord (moved c) (IsGoal c) at rest
       → IsFirstWord (moved c) (IsGoal c) p (word ++ rest)
 
-module _ (c : Coordinate) (below : StaysBelow c) (table : Distances) (m : Measures c table) where
+module _ (c : Coordinate) (table : Distances) (m : Measures c table) where
   -- what stands at a position is its distance
   pub distance_at : (p d : ℕ) → p < c.count → get_or table.distances p 0 ≡ d → IsDistance (moved c) (IsGoal c) p d
   distance_at p d lt e = let P : ℕ → Type 0 = λ x. IsDistance (moved c) (IsGoal c) p x in subst P e (m.exact p lt)
@@ -35,9 +35,9 @@ module _ (c : Coordinate) (below : StaysBelow c) (table : Distances) (m : Measur
         → get_or table.distances next 0 ≡ lower → LowersFirst (moved c) (IsGoal c) p next turn lower
     LowersFirst-measured turn next none leads e = record {
       leads = leads;
-      lower = distance_at next lower (moved-below c below p turn next lt leads) e;
+      lower = distance_at next lower (moved-below c m.stays_below p turn next lt leads) e;
       first = λ u q less moves d. none u q less moves
-          (IsDistance-unique (moved c) (IsGoal c) q _ lower (m.exact q (moved-below c below p u q lt moves)) d);
+          (IsDistance-unique (moved c) (IsGoal c) q _ lower (m.exact q (moved-below c m.stays_below p u q lt moves)) d);
     }
 
     -- and not all turns lead to none
@@ -46,7 +46,7 @@ module _ (c : Coordinate) (below : StaysBelow c) (table : Distances) (m : Measur
         ∥∥₁_elim (IsDistance-lowers (moved c) (IsGoal c) p lower (distance_at p (suc lower) lt (e ∙ add-one lower))) (hlevel)
         (λ (t, r, moves, d).
         none t r (moved-turn c p t r moves).0 moves
-        (IsDistance-unique (moved c) (IsGoal c) r _ lower (m.exact r (moved-below c below p t r lt moves)) d))
+        (IsDistance-unique (moved c) (IsGoal c) r _ lower (m.exact r (moved-below c m.stays_below p t r lt moves)) d))
 
   pub IsDescending-begun : (p left : ℕ) → p < c.count → get_or table.distances p 0 ≡ left → left ≤ GREATEST_BOUND
       → IsDescending c table p [] p left

@@ -320,11 +320,12 @@ IsFirstGap-above c bound index entries small known inside above first = record {
         (known.each earlier (omega (arith, at))).found (λ same. omega (arith, first earlier less))
 
 -- Entries that are known and within the bound are the table.
-pub Measures-known : (c : Coordinate) (name : TableName) (bound : ℕ) (entries : List ℕ) → bound < 255
+pub Measures-known : (c : Coordinate) (name : TableName) (bound : ℕ) (entries : List ℕ) → StaysBelow c → bound < 255
     → AreKnown c bound entries → ((p : ℕ) → get_or entries p 0 ≤ bound)
     → Measures c (record { name = name; bound = bound; distances = entries })
-Measures-known c name bound entries small known within = record {
+Measures-known c name bound entries stays small known within = record {
   positions = known.positions;
+  stays_below = stays;
   exact = λ p lt. (known.each p lt).found (λ far. omega (arith, far, within p));
   within = λ p lt. within p;
 }

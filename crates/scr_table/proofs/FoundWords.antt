@@ -2,7 +2,7 @@
 use Rattle.std.proofs.Common.{◌≡◌, ℕ, zero, suc, ◌+◌, ◌<◌, ◌⊎◌, inl, inr, Bool, true, false, eqb, List, [], ◌∷◌, get_or, Option, Some, None, refl, sym, ap, ◌∙◌, add-one, arith}
 use Rattle.std.proofs.Math.Bool.{Bool-set}
 use Rattle.std.proofs.lemmas.Bool.{cases_lt, eqb-true, eq-eqb}
-use Rattle.scr_positions.specs.Coordinates.{Coordinate, StaysBelow, moved, IsGoal}
+use Rattle.scr_positions.specs.Coordinates.{Coordinate, moved, IsGoal}
 use Rattle.scr_combinatorics.specs.FirstWord.{IsFirstWord, LowersFirst}
 use Rattle.scr_combinatorics.proofs.FirstWordLaws.{IsGoal-distance, IsFirstWord-goal, IsFirstWord-cons}
 use Rattle.scr_table.specs.Distances.{Distances, Measures}
@@ -34,7 +34,7 @@ least_below test (suc n) =
     at true is none = inl (n, omega arith, is, none)
     at false is none = inr (λ t lt. below_next false is none t lt refl)
 
-module _ (c : Coordinate) (stays : StaysBelow c) (table : Distances) (measures : Measures c table) where
+module _ (c : Coordinate) (table : Distances) (measures : Measures c table) where
   -- whether a turn leads to a position with this entry
   leads_to : ℕ → Option ℕ → Bool
   leads_to lower None = false
@@ -62,26 +62,26 @@ module _ (c : Coordinate) (stays : StaysBelow c) (table : Distances) (measures :
             let there = leads_to-some lower (moved c p found.0) found.2 in (
               found.0,
               there.0,
-              LowersFirst-measured c stays table measures p lower lt found.0 there.0
+              LowersFirst-measured c table measures p lower lt found.0 there.0
                   (λ u q less moves at. leads_to-none lower q (moved c p u) (found.3 u less) moves at) there.1 there.2,
-              moved-below c stays p found.0 there.0 lt there.1,
+              moved-below c measures.stays_below p found.0 there.0 lt there.1,
               there.2,
             )
         | inr none ↦
-            absurd (some_turn-lowers c stays table measures p lower lt e
+            absurd (some_turn-lowers c table measures p lower lt e
             (λ t q less moves at. leads_to-none lower q (moved c p t) (none t less) moves at))
       ]
 
   word_at : (d p : ℕ) → p < c.count → get_or table.distances p 0 ≡ d
       → (w : List ℕ) × IsFirstWord (moved c) (IsGoal c) p w
   word_at zero p lt e =
-      let goal = IsGoal-distance (moved c) (IsGoal c) p (Bool-set (c.is_goal p) true) (distance_at c stays table measures p 0 lt e) in
+      let goal = IsGoal-distance (moved c) (IsGoal c) p (Bool-set (c.is_goal p) true) (distance_at c table measures p 0 lt e) in
       ([], IsFirstWord-goal (moved c) (IsGoal c) p goal)
   word_at (suc d) p lt e =
       let step = first_lowering p d lt (e ∙ sym (add-one d)) in
       let rest = word_at d step.1 step.3 step.4 in (
         step.0 ∷ rest.0,
-        IsFirstWord-cons (moved c) (IsGoal c) p step.1 step.0 d rest.0 (distance_at c stays table measures p (suc d) lt e) step.2 rest.1,
+        IsFirstWord-cons (moved c) (IsGoal c) p step.1 step.0 d rest.0 (distance_at c table measures p (suc d) lt e) step.2 rest.1,
       )
 
   -- each position has a first word

@@ -11,7 +11,7 @@ use Rattle.scr_combinatorics.specs.Lists.{numbers_from}
 use Rattle.scr_combinatorics.specs.FirstWord.{LeadsTo, IsDistance}
 use Rattle.scr_combinatorics.specs.Play.{play}
 use Rattle.scr_combinatorics.proofs.FirstWordLaws.{IsGoal-distance, LeadsTo-parts}
-use Rattle.scr_positions.specs.Coordinates.{Coordinate, StaysBelow, moved, IsGoal}
+use Rattle.scr_positions.specs.Coordinates.{Coordinate, moved, IsGoal}
 use Rattle.scr_table.specs.Distances.{Distances, Measures}
 use Rattle.scr_combinatorics.specs.Words.{words_of, words_within}
 use Rattle.scr_table.specs.Words.{leads_to_goal, words_to_goal, goal_words_behind}
@@ -221,8 +221,8 @@ module _ (c : Coordinate) where
         ∙ lengths_from (goal_words_behind c p []) d (most + 1) (λ n less. goal_words-near p d [] n (m.exact p lt) less))
 
     -- nor has a turn that leads to no position near enough
-    pub goal_words_by-none : StaysBelow c → (p : ℕ) (word : List ℕ) (left t : ℕ) → p < c.count → 0 < left
+    pub goal_words_by-none : (p : ℕ) (word : List ℕ) (left t : ℕ) → p < c.count → 0 < left
         → ((q : ℕ) → moved c p t ≡ Some q → left ≤ get_or table.distances q 0) → goal_words_by p word (left - 1) t ≡ []
-    goal_words_by-none below p word left t lt some far =
+    goal_words_by-none p word left t lt some far =
         goal_words_by-far p word (left - 1) t (λ q leads.
-        (get_or table.distances q 0, m.exact q (moved-below c below p t q lt leads), omega (arith, far q leads)))
+        (get_or table.distances q 0, m.exact q (moved-below c m.stays_below p t q lt leads), omega (arith, far q leads)))

@@ -12,6 +12,13 @@ use Rattle.scr_table.specs.Causes.{IsCause}
 use Rattle.scr_table.specs.Distances.{Distances, Measures, IsGap, IsFirstGap}
 use Rattle.scr_table.specs.Lines.{IsTableOf}
 
+pub StaysBelow-shown : (c shown : Coordinate) → ShowsSame c shown → StaysBelow c → StaysBelow shown
+StaysBelow-shown c shown same below p t q at turn leads =
+    let at_c : p < c.count = omega (arith, at, same.count) in
+    let turn_c : t < c.turns = omega (arith, turn, same.turns) in
+    let q_below : q < c.count = below p t q at_c turn_c (sym (same.after p t at_c turn_c) ∙ leads) in
+    omega (arith, q_below, same.count)
+
 module _ (c shown : Coordinate) (below : StaysBelow shown) (same : ShowsSame c shown) where
   pub StaysBelow-same : StaysBelow c
   StaysBelow-same p t q at turn leads =
@@ -26,6 +33,7 @@ module _ (c shown : Coordinate) (below : StaysBelow shown) (same : ShowsSame c s
   pub Measures-same : (table : Distances) → Measures shown table → Measures c table
   Measures-same table m = record {
     positions = m.positions ∙ same.count;
+    stays_below = StaysBelow-same;
     exact = λ p at. (finds_the_same.distances p (get_or table.distances p 0) at).1 (m.exact p (omega (arith, same.count)));
     within = λ p at. m.within p (omega (arith, same.count));
   }
@@ -33,6 +41,7 @@ module _ (c shown : Coordinate) (below : StaysBelow shown) (same : ShowsSame c s
   pub Measures-shown : (table : Distances) → Measures c table → Measures shown table
   Measures-shown table m = record {
     positions = m.positions ∙ sym same.count;
+    stays_below = below;
     exact = λ p at. (finds_the_same.distances p (get_or table.distances p 0) (omega (arith, at, same.count))).0 (m.exact p (omega (arith, at, same.count)));
     within = λ p at. m.within p (omega (arith, at, same.count));
   }

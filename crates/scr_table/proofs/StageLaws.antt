@@ -4,7 +4,7 @@ use Rattle.scr_combinatorics.specs.FirstWord.{IsFirstWord}
 use Rattle.scr_combinatorics.specs.Stages.{Stage, by_letters, IsStageWord}
 use Rattle.scr_combinatorics.proofs.PlayLaws.{play-keeps}
 use Rattle.scr_combinatorics.proofs.FirstWordLaws.{IsDistance-first, IsDistance-unique}
-use Rattle.scr_positions.specs.Coordinates.{StaysBelow, moved, IsGoal}
+use Rattle.scr_positions.specs.Coordinates.{moved, IsGoal}
 use Rattle.scr_positions.specs.SearchSpaces.{positions, Follows}
 use Rattle.scr_positions.proofs.SearchLaws.{FindsTheSame-follows}
 use Rattle.scr_table.specs.Distances.{Distances}
@@ -35,7 +35,7 @@ module _ {S T : Type 0} (after : S → T → Option S) (stage : Stage S T) (IsVa
         }
 
     -- and there is one
-    pub stage_word : StaysBelow line.coordinate → (s : S) → IsValid s → (w : List ℕ) × IsStageWord after stage s w
-    stage_word stays s v =
-        let found = first_word line.coordinate stays table built.measures (view s) (follows.valid s v) in
+    pub stage_word : (s : S) → IsValid s → (w : List ℕ) × IsStageWord after stage s w
+    stage_word s v =
+        let found = first_word line.coordinate table built.measures (view s) (follows.valid s v) in
         (found.0, IsStageWord-first s found.0 v found.1)

@@ -1,7 +1,7 @@
 -- Laws of a coordinate's turns.
-use Rattle.std.proofs.Common.{◌≡◌, ℕ, ◌<◌, Bool, true, false, Option, Some, None, refl}
+use Rattle.std.proofs.Common.{◌≡◌, ℕ, ◌<◌, Bool, true, false, Option, Some, None, refl, ap}
 use Rattle.std.specs.Prelude.{nat_lt, if◌then◌else◌}
-use borrow.Author.Tests.{ltb-true}
+use borrow.Author.Tests.{ltb-true, lt-ltb}
 use Rattle.scr_positions.specs.Coordinates.{Coordinate, StaysBelow, moved}
 
 -- what is taken where a test holds
@@ -15,6 +15,10 @@ pub moved-turn : (c : Coordinate) (p t q : ℕ) → moved c p t ≡ Some q → (
 moved-turn c p t q e =
     let parts = taken_where (nat_lt t c.turns) (c.after p t) q e in
     (ltb-true t c.turns parts.0, parts.1)
+
+-- a turn of the coordinate leads where it does
+pub moved-after : (c : Coordinate) (p t : ℕ) → t < c.turns → moved c p t ≡ c.after p t
+moved-after c p t turn = ap (λ b. if b then c.after p t else None) (lt-ltb t c.turns turn)
 
 -- and leads from positions to positions
 pub moved-below : (c : Coordinate) → StaysBelow c → (p t q : ℕ) → p < c.count → moved c p t ≡ Some q → q < c.count

@@ -1,6 +1,6 @@
 -- Distance tables as callers see them, and what is so of a built one.
 use Rattle.std.specs.Prelude.{◌≡◌, ℕ, ◌<◌, ◌≤◌, List, length, slice_index}
-use Rattle.scr_positions.specs.Coordinates.{Coordinate, moved, IsGoal}
+use Rattle.scr_positions.specs.Coordinates.{Coordinate, StaysBelow, moved, IsGoal}
 use Rattle.scr_combinatorics.specs.FirstWord.{LeadsTo, IsDistance}
 use Rattle.scr_table.specs.declared.name.TableName.{TableName}
 
@@ -11,9 +11,11 @@ pub record Distances : Type 0 where
   pub distances : List ℕ
 
 -- The table measures the coordinate: at each of its positions stands the least number of turns to a goal, and it is at
--- most the bound. The turns are those below the coordinate's number of turns, where they are not barred.
+-- most the bound. The turns are those below the coordinate's number of turns, where they are not barred; they lead from
+-- positions to positions.
 pub record Measures (c : Coordinate) (table : Distances) : Type 0 where
   pub positions : length table.distances ≡ c.count
+  pub stays_below : StaysBelow c
   pub exact : (p : ℕ) → p < c.count → IsDistance (moved c) (IsGoal c) p (slice_index table.distances p)
   pub within : (p : ℕ) → p < c.count → slice_index table.distances p ≤ table.bound
 

@@ -9,7 +9,6 @@ ghost use Rattle.scr_table.specs.Filled.{AreKnown, AreMarked, block_count};
 
 use crate::blocks::{BLOCK, Made, contains};
 use crate::levels::next_level;
-use crate::neighbours::step;
 use crate::table::GREATEST_BOUND;
 use scr_positions::{BARRED, Coord, NOWHERE};
 use std::alloc::{AllocError, Global};
@@ -114,7 +113,7 @@ fn leads_back<C: Coord>(coord: &C, position: u32) -> bool
     requires { position < (C.coordinate coord.now).count }
 {
     for turn in 0..coord.turns() {
-        if let Some(next) = step(coord, position, turn) {
+        if let Some(next) = coord.after(position, turn) {
             if !leads_to(coord, next, position) {
                 return false;
             }
@@ -128,7 +127,7 @@ fn leads_to<C: Coord>(coord: &C, from: u32, to: u32) -> bool
     requires { from < (C.coordinate coord.now).count }
 {
     for turn in 0..coord.turns() {
-        if let Some(next) = step(coord, from, turn) {
+        if let Some(next) = coord.after(from, turn) {
             if next == to {
                 return true;
             }

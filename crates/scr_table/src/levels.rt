@@ -155,7 +155,7 @@ pub(crate) fn next_level<R: Threads + Sync, C: Coord + Sync>(
     ensures known { OnTrue result (AreKnown (C.coordinate coord.now) (level + 1) entries.new) }
     ensures made { OnFalse checked (IsTrue result) }
 {
-    coord.stays_below();
+    // tells that turns lead from positions to positions
     let _count = coord.count();
     let next = NextLevel {
         coord,

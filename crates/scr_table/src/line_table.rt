@@ -86,7 +86,6 @@ impl<L: Line> LineTable<L> {
     {
         let (name, bound) = L::reach();
         let moves = L::moves(alloc)?;
-        moves.stays_below();
         let distances = DistanceTable::build(rt, alloc, name, &moves, bound, workers)?;
         Ok(LineTable { moves, distances })
     }
@@ -107,7 +106,6 @@ impl<L: Line> LineTable<L> {
         ensures first { IsFirstWord (moved L.line.coordinate) (IsGoal L.line.coordinate) position result.items }
         ensures table { IsTableOf L.line self.now }
     {
-        self.moves.stays_below();
         self.distances.descend(&self.moves, position)
     }
 }

@@ -1,24 +1,11 @@
-//! Where turns lead, and the least entries there.
+//! The least entries where turns lead.
 
-ghost use Rattle.std.specs.Prelude.{◌≡◌, ℕ, ◌+◌, ◌<◌, ◌≤◌, IfSome, length, min, slice_index};
-ghost use Rattle.scr_positions.specs.Coordinates.{moved};
+ghost use Rattle.std.specs.Prelude.{◌≡◌, ℕ, ◌+◌, ◌<◌, ◌≤◌, length, min, slice_index};
 ghost use Rattle.scr_table.specs.Filled.{IsLeastNeighbour};
 
 use crate::blocks::{BLOCK, unknown_block};
 use crate::fill::UNKNOWN;
 use scr_positions::{Coord, NOWHERE};
-
-/// The position after a turn, which is one of the coordinate's; `None` where the turn is barred.
-#[inline]
-pub(crate) fn step<C: Coord>(coord: &C, position: u32, turn: u32) -> Option<u32>
-    requires position { position < (C.coordinate coord.now).count }
-    requires turn { turn < (C.coordinate coord.now).turns }
-    ensures leads { result ≡ moved (C.coordinate coord.now) position turn }
-    ensures below { IfSome result (λ next. next < (C.coordinate coord.now).count) }
-{
-    coord.stays_below();
-    coord.after(position, turn)
-}
 
 /// The least entry that a turn leads to from a position, and `UNKNOWN` where each turn is barred.
 #[inline]
@@ -29,7 +16,7 @@ pub(crate) fn least_neighbour<C: Coord>(coord: &C, entries: &[u8], position: u32
 {
     let mut least = UNKNOWN;
     for turn in 0..coord.turns() {
-        if let Some(next) = step(coord, position, turn) {
+        if let Some(next) = coord.after(position, turn) {
             least = least.min(entries[next as usize]);
         }
     }

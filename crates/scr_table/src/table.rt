@@ -2,7 +2,7 @@
 
 ghost use Rattle.std.specs.Prelude.{◌≡◌, ℕ, ◌+◌, ◌^◌, ◌<◌, ◌≤◌, ◌==◌, All, IfOk, IfErr, IfNone, IfSome, count_by, length, slice_index};
 ghost use Rattle.scr_combinatorics.specs.FirstWord.{IsFirstWord, LowersFirst};
-ghost use Rattle.scr_positions.specs.Coordinates.{moved, IsGoal};
+ghost use Rattle.scr_positions.specs.Coordinates.{StaysBelow, moved, IsGoal};
 ghost use Rattle.scr_table.specs.Distances.{Measures};
 ghost use Rattle.scr_table.specs.Causes.{IsCause};
 ghost use Rattle.scr_table.specs.Halves.{AreBlocksOf, deep_of};
@@ -11,7 +11,6 @@ use crate::entries::Entries;
 use crate::fault::BuildFault;
 use crate::fill::filled;
 use crate::name::TableName;
-use crate::neighbours::step;
 use arrayvec::ArrayVec;
 use scr_positions::Coord;
 use std::alloc::Global;
@@ -70,6 +69,7 @@ impl DistanceTable {
         ensures bounded { IfOk result (λ table. table.bound ≡ bound) }
         ensures measures { IfOk result (Measures (C.coordinate coord.now)) }
         ensures cause { IfErr result (IsCause name (C.coordinate coord.now) bound) }
+        ensures stays_below { StaysBelow (C.coordinate coord.now) }
     {
         let _positions = coord.count();
         let entries = filled(rt, alloc, coord, bound as u8, workers)?;
@@ -149,7 +149,6 @@ impl DistanceTable {
         requires position { position < length self.now.distances }
         ensures { let c = C.coordinate coord.now in IsFirstWord (moved c) (IsGoal c) position result.items }
     {
-        coord.stays_below();
         let mut word = ArrayVec::new();
         let mut at = position;
         for lower in (0..self.distance(position)).rev() {
@@ -171,9 +170,8 @@ impl DistanceTable {
         ensures below { result.next < length self.now.distances }
         ensures lower { slice_index self.now.distances result.next ≡ lower }
     {
-        coord.stays_below();
         for turn in 0..coord.turns() {
-            if let Some(next) = step(coord, position, turn) {
+            if let Some(next) = coord.after(position, turn) {
                 if self.distance(next) == lower {
                     return Descent {
                         turn: turn as u8,

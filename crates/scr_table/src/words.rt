@@ -2,10 +2,10 @@
 
 ghost use Rattle.std.specs.Prelude.{◌≡◌, ◌+◌, ◌++◌, [], ◌∷◌, ◌<◌, ◌≤◌, ◌↔◌, IfNone, IfSome, IsTrue, ℕ, length, slice_index, slice_index_or, take};
 ghost use Rattle.scr_positions.specs.Coordinates.{moved};
+ghost use Rattle.scr_table.specs.Distances.{Measures};
 ghost use Rattle.scr_table.specs.Words.{goal_words_behind, words_to_goal};
 
 use crate::line_table::{Line, LineTable};
-use crate::neighbours::step;
 use crate::table::GREATEST_BOUND;
 use arrayvec::ArrayVec;
 use scr_positions::Coord;
@@ -108,6 +108,7 @@ impl<L: Line> LineTable<L> {
         found: &mut FirstWords,
     )
         requires position { position < L.line.coordinate.count }
+        requires measures { Measures L.line.coordinate self.now }
         requires near { slice_index self.now.distances position ≤ left }
         requires short { length word.old.items + left ≤ GREATEST_BOUND }
         requires few { wanted ≤ 1000 }
@@ -115,7 +116,6 @@ impl<L: Line> LineTable<L> {
         ensures found { found.new ≡ take wanted (found.old ++ goal_words_behind L.line.coordinate position word.old.items left) }
         ensures word { word.new.items ≡ word.old.items }
     {
-        self.moves.stays_below();
         if left == 0 {
             found.push(&word[..]);
             return;
@@ -143,7 +143,7 @@ impl<L: Line> LineTable<L> {
         ensures far { IfNone result ((next : ℕ) → moved L.line.coordinate position turn ≡ Some next
             → left ≤ slice_index self.now.distances next) }
     {
-        let next = step(&self.moves, position, turn)?;
+        let next = self.moves.after(position, turn)?;
         if self.distances.distance(next) < left {
             Some(next)
         } else {

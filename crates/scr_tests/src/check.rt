@@ -81,32 +81,45 @@ const fn lacks(slot: u32) -> Result<(), CheckFault> {
     }))
 }
 
+/// That the second slot is missing.
+const SECOND_LACKS: Result<(), CheckFault> = Err(CheckFault::Limit(Missing {
+    round: 1,
+    slot: 2,
+    words: 3,
+}));
+
+/// How many lines are expected, the slot that is missing, if any, a sheet, and what its check says.
+static SHEETS: [(u8, u8, &str, Result<(), CheckFault>); 16] = [
+    (3, 0, "ab\nab\n\n", Ok(())),
+    (0, 0, "", Ok(())),
+    (1, 0, "\n", Ok(())),
+    // The last byte left out, and with it the line that is a line feed alone.
+    (3, 0, "ab\nab\n", Err(CheckFault::Differs { line: 3 })),
+    (2, 0, "ab", Err(CheckFault::Differs { line: 1 })),
+    // Something behind the last line.
+    (3, 0, "ab\nab\n\n\n", Err(CheckFault::Differs { line: 4 })),
+    (3, 0, "ab\nab\n\nx", Err(CheckFault::Differs { line: 4 })),
+    (0, 0, "\n", Err(CheckFault::Differs { line: 1 })),
+    (3, 0, "", Err(CheckFault::Differs { line: 1 })),
+    (3, 0, "ab\nac\n\n", Err(CheckFault::Differs { line: 2 })),
+    (3, 0, "ab\r\nab\n\n", Err(CheckFault::Differs { line: 1 })),
+    // A missing slot, whatever stands in its place, where something does and nothing differs before it.
+    (3, 2, "ab\nab\n\n", SECOND_LACKS),
+    (3, 2, "ab\nx", SECOND_LACKS),
+    (3, 2, "ab\n", Err(CheckFault::Differs { line: 2 })),
+    (3, 2, "ac\nab\n\n", Err(CheckFault::Differs { line: 1 })),
+    (3, 4, "ab\nab\n\nx", Err(CheckFault::Differs { line: 4 })),
+];
+
 #[test]
 fn sheets_are_checked(rt: HostRuntime) -> Result<(), Fail> {
-    for (count, missing, sheet, wanted) in [
-        (3, 0, "ab\nab\n\n", Ok(())),
-        (0, 0, "", Ok(())),
-        (1, 0, "\n", Ok(())),
-        // The last byte left out, and with it the line that is a line feed alone.
-        (3, 0, "ab\nab\n", differs(3)),
-        (2, 0, "ab", differs(1)),
-        // Something behind the last line.
-        (3, 0, "ab\nab\n\n\n", differs(4)),
-        (3, 0, "ab\nab\n\nx", differs(4)),
-        (0, 0, "\n", differs(1)),
-        (3, 0, "", differs(1)),
-        (3, 0, "ab\nac\n\n", differs(2)),
-        (3, 0, "ab\r\nab\n\n", differs(1)),
-        // A missing slot, whatever stands in its place, where something does and nothing differs before it.
-        (3, 2, "ab\nab\n\n", lacks(2)),
-        (3, 2, "ab\nx", lacks(2)),
-        (3, 2, "ab\n", differs(2)),
-        (3, 2, "ac\nab\n\n", differs(1)),
-        (3, 4, "ab\nab\n\nx", differs(4)),
-    ] {
-        let rows = Rows { count, missing };
+    for (count, missing, sheet, wanted) in &SHEETS {
+        let rows = Rows {
+            count: *count,
+            missing: *missing,
+        };
         assert!(rt;
-            comes_to(rt.alloc(), rows, sheet.as_bytes(), wanted)?,
+            comes_to(rt.alloc(), rows, sheet.as_bytes(), *wanted)?,
             "{sheet}"
         );
     }
@@ -172,22 +185,25 @@ fn is_split(
     Ok(is_list && is_sheet && reader.next() == Ok(None) && reader.next() == Ok(None))
 }
 
+/// Inputs, and the list and the sheet that each is split into.
+static INPUTS: [(&str, &str, &str); 12] = [
+    ("", "", ""),
+    ("=====", "", ""),
+    ("=====\n", "", ""),
+    ("=====\nab\n", "", "ab\n"),
+    ("clock 1\n=====\nab", "clock 1\n", "ab"),
+    ("clock 1\n=====", "clock 1\n", ""),
+    ("clock 1\n=====\n=====\n", "clock 1\n", "=====\n"),
+    ("clock 1\n", "clock 1\n", ""),
+    ("clock 1=====\n", "clock 1=====\n", ""),
+    ("======\n", "======\n", ""),
+    ("=====\r\n", "=====\r\n", ""),
+    ("====\n\n=====\n", "====\n\n", ""),
+];
+
 #[test]
 fn inputs_are_split(rt: HostRuntime) -> Result<(), Fail> {
-    for (input, list, sheet) in [
-        ("", "", ""),
-        ("=====", "", ""),
-        ("=====\n", "", ""),
-        ("=====\nab\n", "", "ab\n"),
-        ("clock 1\n=====\nab", "clock 1\n", "ab"),
-        ("clock 1\n=====", "clock 1\n", ""),
-        ("clock 1\n=====\n=====\n", "clock 1\n", "=====\n"),
-        ("clock 1\n", "clock 1\n", ""),
-        ("clock 1=====\n", "clock 1=====\n", ""),
-        ("======\n", "======\n", ""),
-        ("=====\r\n", "=====\r\n", ""),
-        ("====\n\n=====\n", "====\n\n", ""),
-    ] {
+    for (input, list, sheet) in &INPUTS {
         for most in [1, 4096] {
             assert!(rt;
                 is_split(

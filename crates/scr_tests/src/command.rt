@@ -81,74 +81,108 @@ fn commands_read(rt: HostRuntime) {
     reads(&rt, alloc, &["check", "--attempts=7", joined], check(7));
 }
 
+/// That the last character of a seed is no digit.
+const DIGIT: UsageFault = UsageFault::NoSeed(SeedFault::Digit { place: 63 });
+
+/// Words that are refused, and why.
+static REFUSED: [([&str; 3], UsageFault); 21] = [
+    (["one", "444", ZEROS], UsageFault::No444),
+    (["one", "444", "x"], UsageFault::No444),
+    (["one", "444bf", ZEROS], UsageFault::Grammar),
+    (
+        ["one", "clock", "-x"],
+        UsageFault::NoSeed(SeedFault::Length { got: 2 }),
+    ),
+    (
+        ["one", "clock", ""],
+        UsageFault::NoSeed(SeedFault::Length { got: 0 }),
+    ),
+    (["one", "clock", BAD_DIGIT], DIGIT),
+    (
+        ["sheet", "--seed", "abc"],
+        UsageFault::NoSeed(SeedFault::Length { got: 3 }),
+    ),
+    (["sheet", "--seed", BAD_DIGIT], DIGIT),
+    (
+        ["sheet", "--workers=1", "--seed=-x"],
+        UsageFault::NoSeed(SeedFault::Length { got: 2 }),
+    ),
+    (["sheet", "--workers=0", "--seed=-x"], UsageFault::Grammar),
+    (["sheet", "--seed", "-x"], UsageFault::Grammar),
+    (["sheet", "--seed", "-"], UsageFault::Grammar),
+    (["sheet", "--seed", "--workers=2"], UsageFault::Grammar),
+    (["sheet", "--seed", "--"], UsageFault::Grammar),
+    (["sheet", "--se", ZEROS], UsageFault::Grammar),
+    (["sheet", "--workers", "2"], UsageFault::Grammar),
+    (
+        ["check", "--seed", "abc"],
+        UsageFault::NoSeed(SeedFault::Length { got: 3 }),
+    ),
+    (["check", "--seed", BAD_DIGIT], DIGIT),
+    (["tables", "222", ZEROS], UsageFault::Grammar),
+    (["load", "15", "15"], UsageFault::Grammar),
+    (["Sheet", "--seed", ZEROS], UsageFault::Grammar),
+];
+
+/// Words that `sheet` refuses besides its seed.
+static LAST_REFUSED: [&str; 23] = [
+    "--workers=0",
+    "--workers=65",
+    "--workers=01",
+    "--workers=+1",
+    "--workers",
+    "--tries=100001",
+    "--attempts=0",
+    "--attempts=1000001",
+    "--attempts=",
+    "--seed=x",
+    "--",
+    "-",
+    "",
+    "x",
+    "--help",
+    "-h",
+    "--version",
+    "-V",
+    "--se=x",
+    "--seeds=x",
+    "--SEED=x",
+    "-s",
+    "--=2",
+];
+
+/// Options and values that `sheet` refuses besides its seed.
+static OPTIONS_REFUSED: [(&str, &str); 5] = [
+    ("--seed", ZEROS),
+    ("--workers", "0"),
+    ("--workers", "65"),
+    ("--workers", "01"),
+    ("--workers", "+1"),
+];
+
+/// Words that `check` refuses besides its seed.
+static LAST_REFUSED_OF_CHECK: [&str; 4] = [
+    "--attempts=0",
+    "--attempts=1000001",
+    "--tries=1",
+    "--workers=1",
+];
+
+/// Words that `load` refuses.
+static NUMBERS_REFUSED: [&str; 6] = ["10000", "015", "+15", "-1", "", "x"];
+
 #[test]
 fn commands_refused(rt: HostRuntime) {
     let alloc = rt.alloc();
-    let length = |got| UsageFault::NoSeed(SeedFault::Length { got });
-    let digit = UsageFault::NoSeed(SeedFault::Digit { place: 63 });
-    for (words, fault) in [
-        (["one", "444", ZEROS], UsageFault::No444),
-        (["one", "444", "x"], UsageFault::No444),
-        (["one", "444bf", ZEROS], UsageFault::Grammar),
-        (["one", "clock", "-x"], length(2)),
-        (["one", "clock", ""], length(0)),
-        (["one", "clock", BAD_DIGIT], digit),
-        (["sheet", "--seed", "abc"], length(3)),
-        (["sheet", "--seed", BAD_DIGIT], digit),
-        (["sheet", "--workers=1", "--seed=-x"], length(2)),
-        (["sheet", "--workers=0", "--seed=-x"], UsageFault::Grammar),
-        (["sheet", "--seed", "-x"], UsageFault::Grammar),
-        (["sheet", "--seed", "-"], UsageFault::Grammar),
-        (["sheet", "--seed", "--workers=2"], UsageFault::Grammar),
-        (["sheet", "--seed", "--"], UsageFault::Grammar),
-        (["sheet", "--se", ZEROS], UsageFault::Grammar),
-        (["sheet", "--workers", "2"], UsageFault::Grammar),
-        (["check", "--seed", "abc"], length(3)),
-        (["check", "--seed", BAD_DIGIT], digit),
-        (["tables", "222", ZEROS], UsageFault::Grammar),
-        (["load", "15", "15"], UsageFault::Grammar),
-        (["Sheet", "--seed", ZEROS], UsageFault::Grammar),
-    ] {
-        let [command, second, third] = words;
-        let words = [command, second, third];
-        reads(&rt, alloc, &words, Err(CommandFault::Usage(fault)));
+    for (words, fault) in &REFUSED {
+        reads(&rt, alloc, words, Err(CommandFault::Usage(*fault)));
     }
     let usage = Err(CommandFault::Usage(UsageFault::Grammar));
-    for last in [
-        "--workers=0",
-        "--workers=65",
-        "--workers=01",
-        "--workers=+1",
-        "--workers",
-        "--tries=100001",
-        "--attempts=0",
-        "--attempts=1000001",
-        "--attempts=",
-        "--seed=x",
-        "--",
-        "-",
-        "",
-        "x",
-        "--help",
-        "-h",
-        "--version",
-        "-V",
-        "--se=x",
-        "--seeds=x",
-        "--SEED=x",
-        "-s",
-        "--=2",
-    ] {
+    for last in &LAST_REFUSED {
         reads(&rt, alloc, &["sheet", "--seed", ZEROS, last], usage);
         reads(&rt, alloc, &["sheet", last, "--seed", ZEROS], usage);
     }
-    for (option, value) in [
-        ("--seed", ZEROS),
-        ("--workers", "0"),
-        ("--workers", "65"),
-        ("--workers", "01"),
-        ("--workers", "+1"),
-    ] {
+    for (option, value) in &OPTIONS_REFUSED {
         reads(
             &rt,
             alloc,
@@ -166,16 +200,11 @@ fn commands_refused(rt: HostRuntime) {
     reads(&rt, alloc, &["one", "clock", ZEROS, ZEROS], usage);
     reads(&rt, alloc, &["sheet"], usage);
     reads(&rt, alloc, &["check"], usage);
-    for last in [
-        "--attempts=0",
-        "--attempts=1000001",
-        "--tries=1",
-        "--workers=1",
-    ] {
+    for last in &LAST_REFUSED_OF_CHECK {
         reads(&rt, alloc, &["check", "--seed", ZEROS, last], usage);
     }
     reads(&rt, alloc, &["load"], usage);
-    for number in ["10000", "015", "+15", "-1", "", "x"] {
+    for number in &NUMBERS_REFUSED {
         reads(&rt, alloc, &["load", number], usage);
     }
 }

@@ -37,6 +37,8 @@ impl Numbering for Row {
 }
 
 impl Permit<u128> for Row {
+    ghost use Rattle.scr_draw.proofs.RowLaws.{row_exact};
+
     ghost puzzle = { λ _. row_puzzle 3674160 };
 
     ghost greatest = { λ _. 4000000 };
@@ -47,7 +49,7 @@ impl Permit<u128> for Row {
         u128::from(least) <= *state
     }
 
-    fn is_exact(&self) {}
+    ghost exact = { λ _ s least _ _ below. row_exact 3674160 s least below };
 }
 
 /// Does nothing: the states are those that turns reach.

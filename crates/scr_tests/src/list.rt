@@ -80,77 +80,89 @@ fn padded(alloc: Global, front: &[u8], count: usize) -> Result<Vec<u8>, AllocErr
     Ok(list)
 }
 
+/// Lists of one group of Clock.
+static OF_ONE: [&str; 7] = [
+    "clock 1",
+    "clock 1\r\n",
+    "clock 1\r",
+    "\tclock\t\t1 2 ",
+    "\n \r\nclock 1\n\n",
+    "version 2\nclock 1",
+    "version 2\r\n\nclock 1\n",
+];
+
+/// The rounds of a list.
+static FOUR: [Row; 4] = [
+    (Event::Clock, 26, 3, ""),
+    (Event::C222, 5, 4, ""),
+    (Event::Minx, 3, 0, ""),
+    ONE,
+];
+
+/// The rounds of a list of version 2.
+static FOUR_WITH_NAMES: [Row; 4] = [
+    (Event::C333, 2, 2, "Final"),
+    (
+        Event::C222,
+        1,
+        4,
+        "~ : 123456789012345678901234567890123456",
+    ),
+    ONE,
+    (Event::Minx, 1, 0, "x"),
+];
+
+/// Lists of no round.
+static OF_NONE: [&str; 4] = ["", "version 2", "version 2\n", "version 2\r\n\n"];
+
 #[test]
 fn lists_name_rounds(rt: HostRuntime) -> Result<(), Fail> {
-    for list in [
-        "clock 1",
-        "clock 1\r\n",
-        "clock 1\r",
-        "\tclock\t\t1 2 ",
-        "\n \r\nclock 1\n\n",
-        "version 2\nclock 1",
-        "version 2\r\n\nclock 1\n",
-    ] {
+    for list in &OF_ONE {
         assert!(rt; reads(&rt, list.as_bytes(), Ok(&[ONE]))?, "{list}");
     }
-    for list in ["", "version 2", "version 2\n", "version 2\r\n\n"] {
+    for list in &OF_NONE {
         assert!(rt; reads(&rt, list.as_bytes(), Ok(&[]))?, "{list}");
     }
-    assert!(rt;
-        reads(
-            &rt,
-            b"clock 26 3\n222 5\nminx 3\nclock 1",
-            Ok(&[
-                (Event::Clock, 26, 3, ""),
-                (Event::C222, 5, 4, ""),
-                (Event::Minx, 3, 0, ""),
-                ONE
-            ])
-        )?
-    );
+    assert!(rt; reads(&rt, b"clock 26 3\n222 5\nminx 3\nclock 1", Ok(&FOUR))?);
     assert!(rt;
         reads(
             &rt,
             b"version 2\n333 2 : Final\n222 1 4:\t~ : 123456789012345678901234567890123456\nclock 1\nminx 1: x ",
-            Ok(&[
-                (Event::C333, 2, 2, "Final"),
-                (
-                    Event::C222,
-                    1,
-                    4,
-                    "~ : 123456789012345678901234567890123456"
-                ),
-                ONE,
-                (Event::Minx, 1, 0, "x")
-            ])
+            Ok(&FOUR_WITH_NAMES)
         )?
     );
     Ok(())
 }
 
+/// Lists that are refused, the line at fault, and its cause.
+static REFUSED: [(&str, u32, ListCause); 18] = [
+    ("444 1", 1, ListCause::No444),
+    ("444", 1, ListCause::Words),
+    ("333", 1, ListCause::Words),
+    ("clock 1 2 3", 1, ListCause::Words),
+    ("444bf 1", 1, ListCause::Event),
+    ("magic 1", 1, ListCause::Event),
+    ("\u{fe} 1", 1, ListCause::Event),
+    ("\nclock 27", 2, ListCause::Groups),
+    ("clock 0", 1, ListCause::Groups),
+    ("clock 01", 1, ListCause::Groups),
+    ("clock +1", 1, ListCause::Groups),
+    ("clock 4294967297", 1, ListCause::Groups),
+    ("clock 1\r\r\n", 1, ListCause::Groups),
+    ("clock 0 4\nclock 1 4", 1, ListCause::Groups),
+    ("clock 1 4", 1, ListCause::Minimum),
+    ("222 1 12", 1, ListCause::Minimum),
+    ("minx 1 0", 1, ListCause::Minimum),
+    ("clock 1\n\nclock 1 -1", 3, ListCause::Minimum),
+];
+
 #[test]
 fn lists_are_refused(rt: HostRuntime) -> Result<(), Fail> {
-    for (list, number, cause) in [
-        ("444 1", 1, ListCause::No444),
-        ("444", 1, ListCause::Words),
-        ("333", 1, ListCause::Words),
-        ("clock 1 2 3", 1, ListCause::Words),
-        ("444bf 1", 1, ListCause::Event),
-        ("magic 1", 1, ListCause::Event),
-        ("\u{fe} 1", 1, ListCause::Event),
-        ("\nclock 27", 2, ListCause::Groups),
-        ("clock 0", 1, ListCause::Groups),
-        ("clock 01", 1, ListCause::Groups),
-        ("clock +1", 1, ListCause::Groups),
-        ("clock 4294967297", 1, ListCause::Groups),
-        ("clock 1\r\r\n", 1, ListCause::Groups),
-        ("clock 0 4\nclock 1 4", 1, ListCause::Groups),
-        ("clock 1 4", 1, ListCause::Minimum),
-        ("222 1 12", 1, ListCause::Minimum),
-        ("minx 1 0", 1, ListCause::Minimum),
-        ("clock 1\n\nclock 1 -1", 3, ListCause::Minimum),
-    ] {
-        let fault = ListFault::Line { number, cause };
+    for (list, number, cause) in &REFUSED {
+        let fault = ListFault::Line {
+            number: *number,
+            cause: *cause,
+        };
         assert!(rt; reads(&rt, list.as_bytes(), Err(fault))?, "{list}");
     }
     assert!(rt;
@@ -166,41 +178,47 @@ fn lists_are_refused(rt: HostRuntime) -> Result<(), Fail> {
     Ok(())
 }
 
+/// The same of lists of version 2, or that look like one.
+static NAMES_REFUSED: [(&str, u32, ListCause); 24] = [
+    // no list of version 2
+    ("version 3", 1, ListCause::Event),
+    (" version 2", 1, ListCause::Event),
+    ("version 2 \n", 1, ListCause::Event),
+    ("version 2\r", 1, ListCause::Event),
+    ("version 2\rx", 1, ListCause::Event),
+    ("version 2x", 1, ListCause::Event),
+    ("\nversion 2", 2, ListCause::Event),
+    ("clock 1:Final", 1, ListCause::Groups),
+    ("clock 1 : Final", 1, ListCause::Words),
+    // names
+    ("version 2\nclock 1 :", 2, ListCause::Name),
+    ("version 2\nclock 1 : \t ", 2, ListCause::Name),
+    ("version 2\nclock 1 : a\tb", 2, ListCause::Name),
+    ("version 2\nclock 1 : a\r\r\n", 2, ListCause::Name),
+    ("version 2\nclock 1 : \u{e9}", 2, ListCause::Name),
+    ("version 2\nclock 1 : \u{1f}", 2, ListCause::Name),
+    ("version 2\nclock 1 : \u{7f}", 2, ListCause::Name),
+    (
+        "version 2\nclock 1 : 12345678901234567890123456789012345678901",
+        2,
+        ListCause::Name,
+    ),
+    ("version 2\n: Final", 2, ListCause::Words),
+    ("version 2\n\n :", 3, ListCause::Words),
+    ("version 2\nclock : Final", 2, ListCause::Words),
+    ("version 2\nclock 1 2 3 : Final", 2, ListCause::Words),
+    ("version 2\n444 1 :", 2, ListCause::No444),
+    ("version 2\nclock 1 4 :", 2, ListCause::Minimum),
+    ("version 2\nversion 2", 2, ListCause::Event),
+];
+
 #[test]
 fn lists_with_names_are_refused(rt: HostRuntime) -> Result<(), Fail> {
-    for (list, number, cause) in [
-        // no list of version 2
-        ("version 3", 1, ListCause::Event),
-        (" version 2", 1, ListCause::Event),
-        ("version 2 \n", 1, ListCause::Event),
-        ("version 2\r", 1, ListCause::Event),
-        ("version 2\rx", 1, ListCause::Event),
-        ("version 2x", 1, ListCause::Event),
-        ("\nversion 2", 2, ListCause::Event),
-        ("clock 1:Final", 1, ListCause::Groups),
-        ("clock 1 : Final", 1, ListCause::Words),
-        // names
-        ("version 2\nclock 1 :", 2, ListCause::Name),
-        ("version 2\nclock 1 : \t ", 2, ListCause::Name),
-        ("version 2\nclock 1 : a\tb", 2, ListCause::Name),
-        ("version 2\nclock 1 : a\r\r\n", 2, ListCause::Name),
-        ("version 2\nclock 1 : \u{e9}", 2, ListCause::Name),
-        ("version 2\nclock 1 : \u{1f}", 2, ListCause::Name),
-        ("version 2\nclock 1 : \u{7f}", 2, ListCause::Name),
-        (
-            "version 2\nclock 1 : 12345678901234567890123456789012345678901",
-            2,
-            ListCause::Name,
-        ),
-        ("version 2\n: Final", 2, ListCause::Words),
-        ("version 2\n\n :", 3, ListCause::Words),
-        ("version 2\nclock : Final", 2, ListCause::Words),
-        ("version 2\nclock 1 2 3 : Final", 2, ListCause::Words),
-        ("version 2\n444 1 :", 2, ListCause::No444),
-        ("version 2\nclock 1 4 :", 2, ListCause::Minimum),
-        ("version 2\nversion 2", 2, ListCause::Event),
-    ] {
-        let fault = ListFault::Line { number, cause };
+    for (list, number, cause) in &NAMES_REFUSED {
+        let fault = ListFault::Line {
+            number: *number,
+            cause: *cause,
+        };
         assert!(rt; reads(&rt, list.as_bytes(), Err(fault))?, "{list}");
     }
     Ok(())

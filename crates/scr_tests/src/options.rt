@@ -45,21 +45,24 @@ fn values_given(rt: HostRuntime) {
     gives(&rt, alloc, &["--value=--value=x"], false, Some("--value=x"));
 }
 
+/// Words that are refused.
+static REFUSED: [[&str; 2]; 10] = [
+    ["--flag", "--flag"],
+    ["--value=x", "--value=y"],
+    ["--value", "--flag"],
+    ["--value", "-"],
+    ["--value", "-x"],
+    ["--flag=", "--value=x"],
+    ["--flag", "x"],
+    ["--fla", "--value=x"],
+    ["-f", "--value=x"],
+    ["--flag", "--"],
+];
+
 #[test]
 fn words_refused(rt: HostRuntime) {
-    for words in [
-        ["--flag", "--flag"],
-        ["--value=x", "--value=y"],
-        ["--value", "--flag"],
-        ["--value", "-"],
-        ["--value", "-x"],
-        ["--flag=", "--value=x"],
-        ["--flag", "x"],
-        ["--fla", "--value=x"],
-        ["-f", "--value=x"],
-        ["--flag", "--"],
-    ] {
-        let split = split_options(rt.alloc(), &FORMS, &words);
+    for words in &REFUSED {
+        let split = split_options(rt.alloc(), &FORMS, words);
         assert!(&rt; split.is_err());
         if let Err(why) = split {
             assert_eq!(&rt; why, OptionsFault::Usage);

@@ -95,35 +95,41 @@ fn sources_give_their_bytes(rt: HostRuntime) -> Result<(), Fail> {
     Ok(())
 }
 
+/// What each read answers, and the byte that stands first in the buffer then.
+static READS: [(Result<usize, Failed>, u8); 7] = [
+    (Ok(1), b'a'),
+    (Err(Failed), b'a'),
+    (Err(Failed), b'a'),
+    (Err(Failed), b'a'),
+    (Ok(1), b'b'),
+    (Ok(0), b'b'),
+    (Ok(0), b'b'),
+];
+
+/// What each write answers.
+static WRITES: [Result<usize, Failed>; 7] = [
+    Ok(1),
+    Err(Failed),
+    Err(Failed),
+    Err(Failed),
+    Err(Failed),
+    Ok(2),
+    Ok(2),
+];
+
 // Each answer is the stream's at just that call: an adapter that failed without asking, once or for ever after a fault,
 // would be a call behind, and one that asked again at an error would be ahead.
 #[test]
 fn adapters_pass_bytes_and_faults(rt: HostRuntime) {
     let mut source = StdSource::new(Interrupted { calls: 0 });
     let mut buffer = [0; 8];
-    for (wanted, byte) in [
-        (Ok(1), b'a'),
-        (Err(Failed), b'a'),
-        (Err(Failed), b'a'),
-        (Err(Failed), b'a'),
-        (Ok(1), b'b'),
-        (Ok(0), b'b'),
-        (Ok(0), b'b'),
-    ] {
-        assert_eq!(rt; source.read(&mut buffer), wanted);
-        assert_eq!(rt; buffer[0], byte);
+    for (wanted, byte) in &READS {
+        assert_eq!(rt; source.read(&mut buffer), *wanted);
+        assert_eq!(rt; buffer[0], *byte);
     }
 
     let mut sink = StdSink::new(Faltering { calls: 0 });
-    for wanted in [
-        Ok(1),
-        Err(Failed),
-        Err(Failed),
-        Err(Failed),
-        Err(Failed),
-        Ok(2),
-        Ok(2),
-    ] {
-        assert_eq!(rt; sink.write(b"ab"), wanted);
+    for wanted in &WRITES {
+        assert_eq!(rt; sink.write(b"ab"), *wanted);
     }
 }

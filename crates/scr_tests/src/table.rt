@@ -37,8 +37,6 @@ impl Coord for Row {
     fn is_goal(&self, position: u32) -> bool {
         position == 0
     }
-
-    fn stays_below(&self) {}
 }
 
 /// A circle of positions, and steps by powers of 4 both ways: turns that can be undone.
@@ -78,8 +76,6 @@ impl Coord for Circle {
     fn is_goal(&self, position: u32) -> bool {
         position == 0
     }
-
-    fn stays_below(&self) {}
 }
 
 /// A table that is known to measure a row, so that it can be walked down wherever it is handed to.
@@ -264,21 +260,27 @@ fn a_circle(rt: HostRuntime) {
     assert_eq!(rt; TableName::CornerSlice.text(), "cornerslice");
 }
 
+/// States of the lamps, and how many turns each needs.
+static LAMP_STATES: [((bool, bool), u32); 4] = [
+    ((false, false), 0),
+    ((true, false), 1),
+    ((false, true), 1),
+    ((true, true), 2),
+];
+
+/// Numbers, and how many turns each needs.
+static NUMBERS: [(u32, u32); 5] = [(0, 0), (3, 3), (8, 4), (16, 5), (24, 6)];
+
 #[test]
 fn minima(rt: HostRuntime) {
-    for (state, needs) in [
-        ((false, false), 0),
-        ((true, false), 1),
-        ((false, true), 1),
-        ((true, true), 2),
-    ] {
+    for (state, needs) in &LAMP_STATES {
         for least in 0..6 {
-            assert_eq!(rt; no_shorter(&Lamps, &state, least), least <= needs);
+            assert_eq!(rt; no_shorter(&Lamps, state, least), least <= *needs);
         }
     }
-    for (state, needs) in [(0, 0), (3, 3), (8, 4), (16, 5), (24, 6)] {
+    for (state, needs) in &NUMBERS {
         for least in 0..6 {
-            assert_eq!(rt; no_shorter(&Halving, &state, least), least <= needs);
+            assert_eq!(rt; no_shorter(&Halving, state, least), least <= *needs);
         }
     }
     laws::minima(&Lamps);

@@ -38,8 +38,6 @@ impl Coord for Tree {
     fn is_goal(&self, position: u32) -> bool {
         position == 0
     }
-
-    fn stays_below(&self) {}
 }
 
 #[test]

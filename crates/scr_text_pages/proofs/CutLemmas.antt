@@ -1,5 +1,5 @@
 -- Lines to cut at, and lines for the eye alone.
-use Rattle.std.proofs.Common.{◌≡◌, ℕ, suc, ◌+◌, ◌<◌, ◌⊎◌, inl, inr, cond, IsTrue, List, [], ◌∷◌, ◌++◌, length, drop, refl, sym, ap, ◌∙◌, subst, arith, append_assoc, append-nil, replicate}
+use Rattle.std.proofs.Common.{◌≡◌, ℕ, suc, ◌+◌, ◌<◌, ◌⊎◌, inl, inr, cond, IsTrue, List, [], ◌∷◌, ◌++◌, length, drop, refl, sym, ap, ◌∙◌, subst, arith, append_assoc, replicate}
 use Rattle.std.specs.Prelude.{All, codes}
 use Rattle.std.specs.List.{prefix_len}
 use Rattle.std.proofs.Math.Seq.{drop-append_seam}
@@ -12,7 +12,7 @@ use Rattle.scr_layout.specs.Group.{Group, IsGroup}
 use Rattle.scr_layout.specs.Texts.{tag_of}
 use Rattle.scr_text_pages.specs.Reading.{is_dash, cut_text}
 use Rattle.scr_text_pages.specs.Slots.{cut_text_of}
-use Rattle.scr_text_pages.specs.Adding.{IsPlainLine, AddsDashes, AddsCut, AddsPlain, AddsLines, words_read}
+use Rattle.scr_text_pages.specs.Adding.{IsPlainLine, AddsDashes, AddsCut, AddsLines, words_read}
 use Rattle.scr_text_pages.proofs.PlainLemmas.{plain-append, plain-known, plain-cut_text}
 
 abbrev AreDashes : List ℕ → Type 0
@@ -83,33 +83,19 @@ cut-made group old dashed new is adds new_is =
       says = says front rest dashes none;
     }
 
--- ---- texts without controls, one after another
-
-pub plain-none : (text : List ℕ) → AddsPlain text text
-plain-none text = record { more = []; text = sym (append-nil text); plain = All-nil (λ byte. 31 < byte) }
-
-pub plain-text : (old new more : List ℕ) → IsPlainLine more → new ≡ old ++ more → AddsPlain old new
-plain-text old new more plain is = record { more = more; text = is; plain = plain }
-
-pub plain-then : (a b c : List ℕ) → AddsPlain a b → AddsPlain b c → AddsPlain a c
-plain-then a b c h k = record {
-  more = h.more ++ k.more;
-  text = k.text ∙ ap (λ t. t ++ k.more) h.text ∙ append_assoc a h.more k.more;
-  plain = plain-append h.more k.more h.plain k.plain;
-}
-
 pub plain-spaces : (n : ℕ) → IsPlainLine (replicate n 32)
 plain-spaces n = All-replicate (λ byte. 31 < byte) n 32 (omega arith)
 
--- a line that begins with a bar is for the eye alone
-pub bar-line : (old bar filled new : List ℕ) → bar ≡ old ++ codes "|    " → AddsPlain bar filled → new ≡ filled ++ 10 ∷ [] → AddsLines (words_read []) old new
-bar-line old bar filled new bar_is adds new_is = record {
-  lines = (codes "|    " ++ adds.more) ∷ [];
+-- a line of a net
+pub bar-line : (line old bar filled new : List ℕ) → IsPlainLine line → bar ≡ old ++ codes "|    " → filled ≡ bar ++ line
+    → new ≡ filled ++ 10 ∷ [] → AddsLines (words_read (line ∷ [])) old new
+bar-line line old bar filled new plain bar_is filled_is new_is = record {
+  lines = (codes "|    " ++ line) ∷ [];
   text =
-      new_is ∙ ap (λ t. t ++ 10 ∷ []) (adds.text ∙ ap (λ t. t ++ adds.more) bar_is ∙ append_assoc old (codes "|    ") adds.more)
-      ∙ append_assoc old (codes "|    " ++ adds.more) (10 ∷ []);
+      new_is ∙ ap (λ t. t ++ 10 ∷ []) (filled_is ∙ ap (λ t. t ++ line) bar_is ∙ append_assoc old (codes "|    ") line)
+      ∙ append_assoc old (codes "|    " ++ line) (10 ∷ []);
   plain =
-      All-cons IsPlainLine (codes "|    " ++ adds.more) [] (plain-append (codes "|    ") adds.more (plain-known (codes "|    ") refl) adds.plain)
+      All-cons IsPlainLine (codes "|    " ++ line) [] (plain-append (codes "|    ") line (plain-known (codes "|    ") refl) plain)
       (All-nil IsPlainLine);
   reads = refl;
 }

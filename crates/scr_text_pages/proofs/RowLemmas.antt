@@ -1,6 +1,7 @@
 -- Rows of words.
-use Rattle.std.proofs.Common.{◌≡◌, ℕ, zero, suc, ◌+◌, ◌<◌, ◌≤◌, ◌||◌, ◌&&◌, Bool, true, false, IsTrue, if◌then◌else◌, List, [], ◌∷◌, ◌++◌, length, refl, sym, ap, ◌∙◌, subst, arith, append_assoc, append-nil, replicate, filter, get_or, map, leb-true, ltb-true, Result, Ok, Err, OnOk}
+use Rattle.std.proofs.Common.{◌≡◌, ℕ, zero, suc, ◌+◌, ◌<◌, ◌≤◌, ◌||◌, ◌&&◌, Bool, true, false, IsTrue, if◌then◌else◌, List, [], ◌∷◌, ◌++◌, length, refl, sym, ap, ◌∙◌, subst, arith, append_assoc, append-nil, replicate, drop, filter, get_or, map, leb-true, ltb-true, Result, OnOk}
 use Rattle.std.proofs.lemmas.Bool.{or_right}
+use Rattle.std.proofs.lemmas.Result.{on_ok_weaker}
 use Rattle.std.specs.Prelude.{All, nat_le, nat_lt, ◌≢◌}
 use Rattle.std.specs.List.{slice_split, list_all}
 use Rattle.std.proofs.lemmas.Bool.Decides.{nat_tests}
@@ -59,7 +60,7 @@ row-goes_on [] more is = cc
 row-goes_on (byte ∷ row) more is = is
 
 row-words : (row : List ℕ) → is_row row ≡ true → row_words row ≡ line_words row
-row-words row is = ap (λ b. if b then line_words row else []) is
+row-words row is = ap (λ b. if b then line_words row else if begins 124 row then drop 5 row ∷ [] else []) is
 
 -- a line that begins with a space or an E doesn't begin with a hyphen
 row-no_cut : (row : List ℕ) → is_row row ≡ true → is_cut_line row ≡ false
@@ -219,10 +220,6 @@ label-long label old spaced new is long spaced_is new_is =
 abbrev AreOf : Event → List Turn → Type 0
 AreOf event turns = All (λ turn. IsTrue (permits event turn)) turns
 
-then-ok : {E : Type 0} (result : Result (Unit {0}) E) (P Q : Type 0) → (P → Q) → OnOk result P → OnOk result Q
-then-ok (Ok done) P Q step p = step p
-then-ok (Err why) P Q step p = p
-
 -- a word was added behind rows that were ended, and then the others
 pub words-step : {E : Type 0} (result : Result (Unit {0}) E) (event : Event) (turns : List Turn) (left word behind a b c d : List ℕ) (places others : ℕ)
     → ((event : Event) (turn : Turn) (turns : List Turn) → AreOf event (turn ∷ turns) → left ≡ text_of (turn ∷ turns)
@@ -236,7 +233,7 @@ words-step result event [] left word behind a b c d places others first row one 
 words-step result event (turn ∷ turns) left word behind a b c d places others first row one more count are is same =
     let found = first event turn turns are is in
     let rest = more event turns (All-tail (λ t. IsTrue (permits event t)) turn turns are) found.1 (omega arith) in
-    then-ok result (GoesOn (map spelling turns) c d) (GoesOn (map spelling (turn ∷ turns)) a d)
+    on_ok_weaker result
     (λ goes. row-then (spelling turn ∷ []) (map spelling turns) a c d
     (subst (λ w. GoesOn (w ∷ []) a c) found.0 (row-then [] (word ∷ []) a b c row (one found.2))) goes)
     rest

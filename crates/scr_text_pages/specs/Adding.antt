@@ -16,12 +16,12 @@ pub record AddsSlots (name : List ℕ) (slots : List ReadSlot) (before after : L
   pub reads : slots_of_text (has_bytes name) pages ≡ slots
 
 -- those of a group
-abbrev pub AddsPages : List ℕ → Group → List ℕ → List ℕ → Type 0
-AddsPages name group before after = AddsSlots name (slots_of_group group) before after
+abbrev pub AddsPages : Bool → List ℕ → Group → List ℕ → List ℕ → Type 0
+AddsPages pictures name group before after = AddsSlots name (slots_of_group pictures group) before after
 
 -- the scrambles of a group from a place on and before another
-abbrev pub slots_between : ℕ → ℕ → Group → List ReadSlot
-slots_between from end group = take (end - from) (drop from (slots_of_group group))
+abbrev pub slots_between : Bool → ℕ → ℕ → Group → List ReadSlot
+slots_between pictures from end group = take (end - from) (drop from (slots_of_group pictures group))
 
 -- ---- lines
 

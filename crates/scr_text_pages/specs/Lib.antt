@@ -1,3 +1,4 @@
 pub mod Reading
+pub mod Nets
 pub mod Slots
 pub mod Adding

@@ -1,5 +1,6 @@
 -- What is read back from pages of text. The first byte of a line tells what it is: a hyphen (45) begins a line to cut at,
--- a space (32) or an E (69) a row of words, and any other a line that is for the eye alone. Our own choice.
+-- a space (32) or an E (69) a row of words, a bar (124) a line of a net, and any other a line that is for the eye alone.
+-- Our own choice.
 use Rattle.std.specs.Prelude.{ℕ, ◌≡◌, Bool, false, IsTrue, ◌||◌, ◌==◌, if◌then◌else◌, List, [], ◌∷◌, ◌++◌, All, drop, flat_map}
 use Rattle.std.specs.List.{before_first, prefix_len, slice_split}
 use Rattle.scr_text.specs.Lines.{has_bytes, is_line_feed, lines_of, line_words}
@@ -21,11 +22,13 @@ is_dash byte = (byte == 45) || (byte == 32)
 abbrev pub cut_text : List ℕ → List ℕ
 cut_text line = drop (prefix_len is_dash line) line
 
--- the words of a line that is a row of them; a label is one
+-- the words of a line that is a row of them; a label is one, and so is what stands behind the bar of a line of a net and
+-- four spaces
 abbrev pub row_words : List ℕ → List (List ℕ)
-row_words line = if is_row line then line_words line else []
+row_words line = if is_row line then line_words line else if begins 124 line then drop 5 line ∷ [] else []
 
--- a scramble as it is read: what the line above it says, and the words of its rows, the first of them its label
+-- a scramble as it is read: what the line above it says, and the words of its rows, the first of them its label, behind
+-- which stand the lines of its net
 pub record ReadSlot : Type 0 where
   pub of : List ℕ
   pub words : List (List ℕ)

@@ -22,7 +22,7 @@ pub(crate) fn write_page(
     requires competition { HasNoControl competition.now }
     requires from { from ≤ spacing.end }
     requires end { spacing.end ≤ per_group_of group.now.event + 2 }
-    ensures { OnOk result (AddsSlots competition.now (slots_between from spacing.end group.now)
+    ensures { OnOk result (AddsSlots competition.now (slots_between spacing.pictures from spacing.end group.now)
         (string_bytes text.old) (string_bytes text.new)) }
 {
     write_heads(text, group, competition, page)?;
@@ -39,7 +39,7 @@ fn write_slots(
 ) -> Result<(), AllocError>
     requires from { from ≤ spacing.end }
     requires end { spacing.end ≤ per_group_of group.now.event + 2 }
-    ensures { OnOk result (AddsLines (slots_read (slots_between from spacing.end group.now))
+    ensures { OnOk result (AddsLines (slots_read (slots_between spacing.pictures from spacing.end group.now))
         (string_bytes text.old) (string_bytes text.new)) }
 {
     for place in from..spacing.end {

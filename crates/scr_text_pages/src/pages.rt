@@ -34,7 +34,7 @@ pub fn write_pages(
 ) -> Result<(), AllocError>
     requires { HasNoControl competition.now }
     ensures { OnOk result
-        (AddsPages competition.now group.now (string_bytes text.old) (string_bytes text.new)) }
+        (AddsPages pictures competition.now group.now (string_bytes text.old) (string_bytes text.new)) }
 {
     let heads = head_lines(group, competition);
     let count = page_count(group, heads, pictures);

@@ -122,7 +122,7 @@ fn write_word(text: &mut String, wide: usize, column: u8, word: &str) -> Result<
 }
 
 /// Adds so many spaces.
-pub(crate) fn write_spaces(text: &mut String, count: usize) -> Result<(), AllocError>
+fn write_spaces(text: &mut String, count: usize) -> Result<(), AllocError>
     ensures { OnOk result (string_bytes text.new ≡ string_bytes text.old ++ replicate count 32) }
 {
     for _space in 0..count {

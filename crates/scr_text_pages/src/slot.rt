@@ -1,7 +1,8 @@
 //! A scramble on a page.
 
-ghost use Rattle.std.specs.Prelude.{◌+◌, ◌<◌, ◌≤◌, [], take, drop, OnOk, string_bytes};
+ghost use Rattle.std.specs.Prelude.{◌+◌, ◌<◌, ◌≤◌, take, drop, OnOk, string_bytes};
 ghost use Rattle.scr_notation.specs.Event.{per_group_of};
+ghost use Rattle.scr_text_pages.specs.Nets.{nets};
 ghost use Rattle.scr_text_pages.specs.Slots.{slots_of_group};
 ghost use Rattle.scr_text_pages.specs.Adding.{AddsLines, slots_read, words_read};
 
@@ -29,7 +30,7 @@ pub(crate) fn write_slot(
     spacing: Spacing,
 ) -> Result<(), AllocError>
     requires { place < per_group_of group.now.event + 2 }
-    ensures { OnOk result (AddsLines (slots_read (take 1 (drop place (slots_of_group group.now))))
+    ensures { OnOk result (AddsLines (slots_read (take 1 (drop place (slots_of_group spacing.pictures group.now))))
         (string_bytes text.old) (string_bytes text.new)) }
 {
     let scramble = &group.scrambles()[place as usize];
@@ -48,7 +49,8 @@ fn write_behind(
     place: u32,
     spacing: Spacing,
 ) -> Result<(), AllocError>
-    ensures { OnOk result (AddsLines (words_read []) (string_bytes text.old) (string_bytes text.new)) }
+    ensures { OnOk result
+        (AddsLines (words_read (nets spacing.pictures scramble.now)) (string_bytes text.old) (string_bytes text.new)) }
 {
     if spacing.pictures {
         write_net(text, scramble)?;

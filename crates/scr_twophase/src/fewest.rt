@@ -1,23 +1,20 @@
-//! The 3x3x3 for fewest moves: its scramble, which begins and ends with R' U' F, and its states as they are drawn.
+//! The scramble of the 3x3x3 for fewest moves, which begins and ends with R' U' F.
 //!
 //! Between the two frames stands a scramble of the 3x3x3, for the cube that the frames leave of a state: the frame
 //! taken back, the state, and the frame taken back again (`specs/Fewest.antt`).
 
 ghost use Rattle.std.specs.Prelude.{◌≡◌, ◌+◌, ◌++◌, ◌≤◌, IsTrue, is_some, length};
 ghost use Rattle.scr_combinatorics.specs.Play.{play};
-ghost use Rattle.scr_orbit.specs.PowerPuzzles.{after_letter, power_puzzle};
+ghost use Rattle.scr_orbit.specs.PowerPuzzles.{after_letter};
 ghost use Rattle.scr_notation.specs.declared.event.Event.TheVariants.{Fm333};
 ghost use Rattle.scr_notation.specs.Written.{at_most, IsTheScramble};
-ghost use Rattle.scr_cube.specs.Cube333.{cube_numbered, cube_powers, solved_cube};
+ghost use Rattle.scr_cube.specs.Cube333.{cube_powers, solved_cube};
 ghost use Rattle.scr_twophase.specs.Fewest.{frame, between, is_frame_at, is_framed, is_turn, IsFramed, IsScrambleFewest};
-ghost use Rattle.scr_twophase.specs.Minima.{needs_turns};
 ghost use Rattle.scr_twophase.specs.TwoParts.{two_parts};
 
-use crate::draw::Draw333;
 use crate::scramble::scramble_333;
 use crate::tables::PruneTables;
 use scr_cube::{Cube, PowerTurned};
-use scr_draw::{NumberedStates, Numbering, Permit};
 use scr_notation::{Event, Scramble, Turn, inverse, numbered_scramble, push_all};
 use scr_stages::StageTables;
 
@@ -98,56 +95,5 @@ fn is_turn(turn: Turn, face: u8, amount: u8) -> bool
             amount: times,
         } => own == face && depth == 1 && times == amount,
         _ => false,
-    }
-}
-
-/// The 3x3x3 for fewest moves: its states by their numbers, and the test of its minima, as those of the 3x3x3.
-#[derive(Clone, Copy)]
-pub struct DrawFewest {
-    cubes: Draw333,
-}
-
-impl DrawFewest {
-    /// The 3x3x3 for fewest moves.
-    pub fn new() -> DrawFewest {
-        DrawFewest {
-            cubes: Draw333::new(),
-        }
-    }
-}
-
-impl NumberedStates<Cube> for DrawFewest {
-    ghost numbered = { λ _. cube_numbered };
-}
-
-impl Numbering for DrawFewest {
-    type State = Cube;
-
-    fn count(&self) -> u128 {
-        self.cubes.count()
-    }
-
-    fn state_at(&self, number: u128) -> Cube {
-        self.cubes.state_at(number)
-    }
-
-    fn number_of(&self, state: &Cube) -> u128 {
-        self.cubes.number_of(state)
-    }
-}
-
-impl Permit<Cube> for DrawFewest {
-    ghost puzzle = { λ _. power_puzzle cube_powers };
-
-    ghost greatest = { λ _. 5 };
-
-    ghost needs = { λ _. needs_turns };
-
-    fn needs_at_least(&self, state: &Cube, least: u32) -> bool {
-        self.cubes.needs_at_least(state, least)
-    }
-
-    fn is_exact(&self) {
-        self.cubes.is_exact()
     }
 }

@@ -1,21 +1,16 @@
-//! The 3x3x3 as it is held: its scramble, and its states as they are drawn.
-ghost use Rattle.std.specs.Prelude.{◌≡◌, ◌↔◌, ◌<◌, ◌++◌, ℕ, IfSome, IsTrue, [], length, option_to_list, slice_index_or};
-ghost use Rattle.std.proofs.Props.{props};
+//! The scramble of the 3x3x3 as it is held.
+ghost use Rattle.std.specs.Prelude.{◌≡◌, ◌<◌, ◌++◌, IfSome, IsTrue, [], length, option_to_list, slice_index_or};
 ghost use Rattle.scr_combinatorics.specs.Play.{play};
-ghost use Rattle.scr_combinatorics.specs.Reach.{Needs};
 ghost use Rattle.scr_notation.specs.declared.event.Event.TheVariants.{Bf333};
 ghost use Rattle.scr_notation.specs.declared.turn.Turn.TheVariants.{Face};
 ghost use Rattle.scr_notation.specs.Turns.{permits};
 ghost use Rattle.scr_notation.specs.Written.{at_most, IsTheScramble};
-ghost use Rattle.scr_cube.specs.Held.{HeldState, IsHeld, first_holds, second_holds, hold_word, held_cube_after, held_numbered, held_puzzle, solved_held};
+ghost use Rattle.scr_cube.specs.Held.{first_holds, second_holds, hold_word, held_cube_after, solved_held};
 ghost use Rattle.scr_twophase.specs.HeldScramble.{IsScramble333bf};
-ghost use Rattle.scr_twophase.specs.Minima.{needs_turns};
 
-use crate::needs::needs_333;
 use crate::scramble::scramble_333;
 use crate::tables::PruneTables;
-use scr_cube::{Held, HeldNumbers};
-use scr_draw::{NumberedStates, Numbering, Permit};
+use scr_cube::Held;
 use scr_notation::{Event, Scramble, Turn, inverse, push_all, push_turn};
 use scr_stages::StageTables;
 
@@ -94,52 +89,4 @@ fn push_some(scramble: &mut Scramble, turn: Option<Turn>)
     if let Some(turn) = turn {
         push_turn(scramble, turn);
     }
-}
-
-/// The 3x3x3 as it is held: its states by their numbers, and the test of its minima, which is that of the cube alone.
-#[derive(Clone, Copy)]
-pub struct DrawHeld {
-    ghost exact: { (s : HeldState) (least : ℕ) → IsHeld s
-        → IsTrue (needs_turns s.cube least) ↔ Needs held_puzzle s least } by { Prim.hlevel props },
-}
-
-impl DrawHeld {
-    /// The 3x3x3 as it is held.
-    pub fn new() -> DrawHeld {
-        DrawHeld {}
-    }
-}
-
-impl NumberedStates<Held> for DrawHeld {
-    ghost numbered = { λ _. held_numbered };
-}
-
-impl Numbering for DrawHeld {
-    type State = Held;
-
-    fn count(&self) -> u128 {
-        HeldNumbers.count()
-    }
-
-    fn state_at(&self, number: u128) -> Held {
-        HeldNumbers.state_at(number)
-    }
-
-    fn number_of(&self, state: &Held) -> u128 {
-        HeldNumbers.number_of(state)
-    }
-}
-
-impl Permit<Held> for DrawHeld {
-    ghost puzzle = { λ _. held_puzzle };
-
-    ghost greatest = { λ _. 5 };
-
-    ghost needs = { λ _ s least. needs_turns s.cube least };
-
-    fn needs_at_least(&self, state: &Held, least: u32) -> bool {
-        needs_333(state.cube(), least)
-    }
-
-    fn is_exact(&self) {}
 }

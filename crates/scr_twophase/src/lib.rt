@@ -27,9 +27,9 @@ mod scramble;
 mod second;
 mod tables;
 
-pub use draw::Draw333;
-pub use fewest::{DrawFewest, is_framed, scramble_333fm};
-pub use held::{DrawHeld, scramble_333bf};
+pub use draw::{Draw333, DrawCube, DrawFewest, DrawHeld};
+pub use fewest::{is_framed, scramble_333fm};
+pub use held::scramble_333bf;
 pub use needs::needs_333;
 pub use scramble::{scramble_333, two_parts};
 pub use tables::PruneTables;

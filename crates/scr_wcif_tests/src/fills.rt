@@ -1,8 +1,6 @@
 //! Runs that fill a file: what is written, and what is told of files and sheets that don't fit.
 
-use scr_outside::{MemSink, MemSource};
-use scr_wcif::{Wcif, run_on_words};
-use std::alloc::Global;
+use crate::ran::run_with;
 use std::test::Fail;
 
 /// A file with what a sheet leaves as it is, up to the sets of a 6x6x6; sets, which a sheet replaces; and what stands
@@ -42,20 +40,6 @@ const CLOCK_SETS: &str = ",\"scrambleSets\":[\
 {\"id\":1,\"scrambles\":[\"UR1+\",\"UR2+\",\"y2\",\"ALL5-\",\"UL3-\"],\"extraScrambles\":[\"U1+\",\"U2+\"]},\
 {\"id\":2,\"scrambles\":[\"DR1+\",\"DR2+\",\"y2\",\"ALL0+\",\"DL3-\"],\"extraScrambles\":[\"L1+\",\"L2+\"]}]";
 
-/// The exit code of a run, what it wrote, and what it told.
-type Ran = (u8, MemSink, MemSink);
-
-/// Runs the command `fill` on an input, where these reads and these writes fail.
-fn filled(alloc: Global, input: &str, reads: &[u32], writes: &[u32]) -> Result<Ran, Fail> {
-    let bytes = input.as_bytes().to_vec(alloc)?;
-    let mut source = MemSource::new(bytes, 100, reads.to_vec(alloc)?);
-    let mut out = MemSink::new(alloc, 20_000, 9, writes.to_vec(alloc)?)?;
-    let mut err = MemSink::new(alloc, 1_000, 100, Vec::new(alloc))?;
-    let words: [&str; 1] = ["fill"];
-    let code = run_on_words(&Wcif, alloc, Ok(&words), &mut source, &mut out, &mut err);
-    Ok((code, out, err))
-}
-
 #[test]
 fn a_file_is_filled(rt: HostRuntime) -> Result<(), Fail> {
     let alloc = rt.alloc();
@@ -63,111 +47,125 @@ fn a_file_is_filled(rt: HostRuntime) -> Result<(), Fail> {
         "{FRONT}{OLD_SETS}{BEHIND}{END}\n=====\n{SIX}{CLOCK_A}{CLOCK_B}"
     )?;
     let wanted = format!(in alloc; "{WRITTEN}{SIX_SETS}{BEHIND}{CLOCK_SETS}{END}")?;
-    let (code, out, err) = filled(alloc, input.as_str(), &[], &[])?;
-    assert_eq!(rt; code, 0);
-    assert_eq!(rt; out.contents(), wanted.as_bytes());
+    let ran = run_with(alloc, "fill", input.as_str(), &[], &[])?;
+    assert_eq!(rt; ran.code, 0);
+    assert_eq!(rt; ran.out.contents(), wanted.as_bytes());
     assert_eq!(rt;
-        err.contents(),
+        ran.err.contents(),
         b"scramble-wcif: left out: 444 1: Final\n".as_slice()
     );
-    let (code, out, _) = filled(alloc, input.as_str(), &[5], &[])?;
-    assert_eq!(rt; code, 5);
-    assert_eq!(rt; out.contents(), b"".as_slice());
-    let (code, out, _) = filled(alloc, input.as_str(), &[], &[2])?;
-    assert_eq!(rt; code, 6);
-    assert_eq!(rt; out.contents(), b"{\"formatV".as_slice());
+    let ran = run_with(alloc, "fill", input.as_str(), &[5], &[])?;
+    assert_eq!(rt; ran.code, 5);
+    assert_eq!(rt; ran.out.contents(), b"".as_slice());
+    let ran = run_with(alloc, "fill", input.as_str(), &[], &[2])?;
+    assert_eq!(rt; ran.code, 6);
+    assert_eq!(rt; ran.out.contents(), b"{\"formatV".as_slice());
     Ok(())
 }
+
+/// A second round of another event, and a third round.
+const OTHER_EVENT: &str =
+    "Round 2: Skewb, at least 2\nGroup A\n1. U\n2. U\n3. U\n4. U\n5. U\nE1. U\nE2. U\n\n";
+
+const THIRD: &str =
+    "Round 3: Skewb, at least 2\nGroup A\n1. U\n2. U\n3. U\n4. U\n5. U\nE1. U\nE2. U\n\n";
+
+/// Inputs that are refused, each in four parts, of which the first is the file that fits where nothing is said, and what
+/// is told of each.
+static REFUSED: [(Option<&str>, &str, &str, &str, &str); 12] = [
+    (
+        None,
+        "\n",
+        SIX,
+        "",
+        "no line ===== between a file and a sheet",
+    ),
+    (
+        None,
+        "=====\n",
+        SIX,
+        "",
+        "no line ===== between a file and a sheet",
+    ),
+    (
+        None,
+        "\n=====",
+        "",
+        "",
+        "no line ===== between a file and a sheet",
+    ),
+    (
+        Some("[]"),
+        "\n=====\n",
+        "",
+        "",
+        "no competition: no list of events",
+    ),
+    (
+        Some("{\"events\":[]"),
+        "\n=====\n",
+        "x",
+        "",
+        "no JSON at byte 13",
+    ),
+    (
+        None,
+        "\n=====\n=====\n",
+        SIX,
+        "",
+        "sheet line 1: no head of the next round",
+    ),
+    (
+        None,
+        "\n=====\n",
+        SIX,
+        "Round 2: Clock, at least 2\nGroup A\n1. U\n",
+        "sheet line 11: no scramble of the event",
+    ),
+    (
+        None,
+        "\n=====\n",
+        SIX,
+        "Round 2: Clock, at least 2\n",
+        "sheet line 10: the sheet ends within a round",
+    ),
+    (None, "\n=====\n", "", "", "sheet round 1: missing"),
+    (None, "\n=====\n", SIX, "", "sheet round 2: missing"),
+    (
+        None,
+        "\n=====\n",
+        SIX,
+        CLOCK_A,
+        "sheet round 2: another number of groups",
+    ),
+    (
+        None,
+        "\n=====\n",
+        SIX,
+        OTHER_EVENT,
+        "sheet round 2: another event",
+    ),
+];
 
 #[test]
 fn what_does_not_fit_is_refused(rt: HostRuntime) -> Result<(), Fail> {
     let alloc = rt.alloc();
     let file = format!(in alloc; "{FRONT}{OLD_SETS}{BEHIND}{END}")?;
     let file = file.as_str();
-    let other =
-        "Round 2: Skewb, at least 2\nGroup A\n1. U\n2. U\n3. U\n4. U\n5. U\nE1. U\nE2. U\n\n";
-    let third =
-        "Round 3: Skewb, at least 2\nGroup A\n1. U\n2. U\n3. U\n4. U\n5. U\nE1. U\nE2. U\n\n";
-    for (before, between, sheet, last, message) in [
-        (
-            file,
-            "\n",
-            SIX,
-            "",
-            "no line ===== between a file and a sheet",
-        ),
-        (
-            file,
-            "=====\n",
-            SIX,
-            "",
-            "no line ===== between a file and a sheet",
-        ),
-        (
-            file,
-            "\n=====",
-            "",
-            "",
-            "no line ===== between a file and a sheet",
-        ),
-        (
-            "[]",
-            "\n=====\n",
-            "",
-            "",
-            "no competition: no list of events",
-        ),
-        ("{\"events\":[]", "\n=====\n", "x", "", "no JSON at byte 13"),
-        (
-            file,
-            "\n=====\n=====\n",
-            SIX,
-            "",
-            "sheet line 1: no head of the next round",
-        ),
-        (
-            file,
-            "\n=====\n",
-            SIX,
-            "Round 2: Clock, at least 2\nGroup A\n1. U\n",
-            "sheet line 11: no scramble of the event",
-        ),
-        (
-            file,
-            "\n=====\n",
-            SIX,
-            "Round 2: Clock, at least 2\n",
-            "sheet line 10: the sheet ends within a round",
-        ),
-        (file, "\n=====\n", "", "", "sheet round 1: missing"),
-        (file, "\n=====\n", SIX, "", "sheet round 2: missing"),
-        (
-            file,
-            "\n=====\n",
-            SIX,
-            CLOCK_A,
-            "sheet round 2: another number of groups",
-        ),
-        (
-            file,
-            "\n=====\n",
-            SIX,
-            other,
-            "sheet round 2: another event",
-        ),
-    ] {
+    for (before, between, sheet, last, message) in &REFUSED {
+        let before = before.unwrap_or(file);
         let input = format!(in alloc; "{before}{between}{sheet}{last}")?;
-        let (code, out, err) = filled(alloc, input.as_str(), &[], &[])?;
+        let ran = run_with(alloc, "fill", input.as_str(), &[], &[])?;
         let told = format!(in alloc; "scramble-wcif: {message}\n")?;
-        assert_eq!(rt; err.contents(), told.as_bytes());
-        assert_eq!(rt; code, 3);
-        assert_eq!(rt; out.contents(), b"".as_slice());
+        assert_eq!(rt; ran.err.contents(), told.as_bytes());
+        assert_eq!(rt; ran.code, 3);
+        assert_eq!(rt; ran.out.contents(), b"".as_slice());
     }
-    let input = format!(in alloc; "{file}\n=====\n{SIX}{CLOCK_A}{CLOCK_B}{third}")?;
-    let (code, _, err) = filled(alloc, input.as_str(), &[], &[])?;
-    assert_eq!(rt; code, 3);
+    let input = format!(in alloc; "{file}\n=====\n{SIX}{CLOCK_A}{CLOCK_B}{THIRD}")?;
+    let ran = run_with(alloc, "fill", input.as_str(), &[], &[])?;
+    assert_eq!(rt; ran.code, 3);
     assert_eq!(rt;
-        err.contents(),
+        ran.err.contents(),
         b"scramble-wcif: sheet round 3: not in the file\n".as_slice()
     );
     Ok(())

@@ -5,4 +5,6 @@
 #[cfg(test)]
 mod fills;
 #[cfg(test)]
+mod ran;
+#[cfg(test)]
 mod runs;

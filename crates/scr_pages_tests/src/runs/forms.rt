@@ -68,39 +68,41 @@ enum Form {
     Html,
 }
 
+/// Words, and what the pages are that they make of the printed sheet.
+static RUNS: [(&[&str], Wanted); 7] = [
+    (&["--html"], (0, 13, Form::Html, 83)),
+    (&["--html", "--pictures", "no"], (0, 13, Form::Html, 0)),
+    (
+        &["--group", "9", "--pictures=yes", "--html"],
+        (8, 1, Form::Html, 5),
+    ),
+    (&[], (0, 13, Form::Text, 0)),
+    (
+        &["--pictures", "yes", "--name", "Open 1"],
+        (0, 13, Form::Text, 558),
+    ),
+    (&["--pictures=no", "--group=11"], (10, 1, Form::Text, 0)),
+    (&["--group=9", "--pictures=yes"], (8, 1, Form::Text, 105)),
+];
+
 // All groups and single ones, with how many pictures as HTML, and how many lines of nets as text: three times the layers of a
 // cube for each scramble.
 #[test]
 fn words_of_pages(rt: HostRuntime) -> Result<(), Fail> {
     let alloc = rt.alloc();
     let sheet = sheet(alloc, 0, 13)?;
-    let runs: [(&[&str], Wanted); 7] = [
-        (&["--html"], (0, 13, Form::Html, 83)),
-        (&["--html", "--pictures", "no"], (0, 13, Form::Html, 0)),
-        (
-            &["--group", "9", "--pictures=yes", "--html"],
-            (8, 1, Form::Html, 5),
-        ),
-        (&[], (0, 13, Form::Text, 0)),
-        (
-            &["--pictures", "yes", "--name", "Open 1"],
-            (0, 13, Form::Text, 558),
-        ),
-        (&["--pictures=no", "--group=11"], (10, 1, Form::Text, 0)),
-        (&["--group=9", "--pictures=yes"], (8, 1, Form::Text, 105)),
-    ];
-    for (words, (first, count, form, pictures)) in runs {
+    for (words, (first, count, form, pictures)) in &RUNS {
         let ran = run_with(alloc, words, sheet.as_str(), &[], &[])?;
         assert_eq!(rt; ran.code, 0);
         assert_eq!(rt; ran.err.contents(), b"".as_slice());
         let page = str::from_utf8(ran.out.contents())?;
-        let (read, begin) = match form {
+        let (read, begin) = match *form {
             Form::Text => (words_of_text(alloc, page)?, "|    "),
             Form::Html => (words_of_html(alloc, page)?, "<svg class=\"picture\" "),
         };
-        let wanted = words_of_sheet(alloc, self::sheet(alloc, first, count)?.as_str())?;
+        let wanted = words_of_sheet(alloc, self::sheet(alloc, *first, *count)?.as_str())?;
         assert_eq!(rt; read.as_str(), wanted.as_str(), "{words:?}");
-        assert_eq!(rt; lines(page, begin), pictures, "{words:?}");
+        assert_eq!(rt; lines(page, begin), *pictures, "{words:?}");
     }
     Ok(())
 }

@@ -31,21 +31,23 @@ fn refused<R: Abort + AllocGlobal>(
     Ok(())
 }
 
+/// Words that ask for nothing.
+static WORDS_REFUSED: [&[&str]; 8] = [
+    &["sheet.txt"],
+    &["--text"],
+    &["--name"],
+    &["--html", "--group"],
+    &["--group", "0"],
+    &["--group=4294967296"],
+    &["--pictures", "maybe"],
+    &["--regulations="],
+];
+
 // The words alone are at fault, and the input isn't read.
 #[test]
 fn words_that_ask_for_nothing(rt: HostRuntime) -> Result<(), Fail> {
     let told = format!(in rt.alloc(); "scramble-pages: {USAGE}\n")?;
-    let words: [&[&str]; 8] = [
-        &["sheet.txt"],
-        &["--text"],
-        &["--name"],
-        &["--html", "--group"],
-        &["--group", "0"],
-        &["--group=4294967296"],
-        &["--pictures", "maybe"],
-        &["--regulations="],
-    ];
-    for words in words {
+    for words in &WORDS_REFUSED {
         let ran = run_with(rt.alloc(), words, "", &[1], &[])?;
         assert_eq!(rt; ran.code, 2);
         assert_eq!(rt; ran.err.contents(), told.as_bytes());
@@ -54,22 +56,24 @@ fn words_that_ask_for_nothing(rt: HostRuntime) -> Result<(), Fail> {
     Ok(())
 }
 
-// A sheet that is spoilt by a text in place of another, and what is told of it.
+/// A text, another in its place, by which a sheet is spoilt, and what is told of it.
+static SPOILT: [(&str, &str, &str); 6] = [
+    ("Round 2", "Round 3", "line 11: no head of the next round"),
+    ("Group A", "Group B", "line 2: no name of the next group"),
+    (
+        "\n3. ",
+        "\n4. ",
+        "line 5: not the label of the next scramble",
+    ),
+    ("\n3. ", "\n3. U ", "line 5: no scramble of the event"),
+    ("\n\n", "\n \n", "line 10: no empty line behind the group"),
+    ("\n1. ", "\n1. (2,0) / ", BARRED),
+];
+
 #[test]
 fn what_is_no_sheet(rt: HostRuntime) -> Result<(), Fail> {
     let sheet = sheet(rt.alloc(), 0, 13)?;
-    for (old, new, message) in [
-        ("Round 2", "Round 3", "line 11: no head of the next round"),
-        ("Group A", "Group B", "line 2: no name of the next group"),
-        (
-            "\n3. ",
-            "\n4. ",
-            "line 5: not the label of the next scramble",
-        ),
-        ("\n3. ", "\n3. U ", "line 5: no scramble of the event"),
-        ("\n\n", "\n \n", "line 10: no empty line behind the group"),
-        ("\n1. ", "\n1. (2,0) / ", BARRED),
-    ] {
+    for (old, new, message) in &SPOILT {
         let spoilt = with_text(rt.alloc(), sheet.as_str(), old, new)?;
         refused(&rt, "--html", spoilt.as_str(), 3, message)?;
         refused(&rt, "--regulations=no", spoilt.as_str(), 3, message)?;

@@ -9,7 +9,7 @@ use std::process::Abort;
 use std::test::Fail;
 
 const ROUNDS: &[u8] =
-    b"clock 1\nminx 1\n222 1\npyram 1\nskewb 1\nsq1 1\n333 1\n333oh 1\n333bf 1\n333fm 1\n555 1\n666 1\n777 1\nclock 1\nminx 1\n222 1\npyram 1\nskewb 1\nsq1 1\n333 1\n333oh 1\n333bf 1\n333fm 1\n555 1\n666 1\n777 1\n";
+    b"clock 1\nminx 1\n222 1\npyram 1\nskewb 1\nsq1 1\n333 1\n333 1\n333bf 1\n333fm 1\n555 1\n666 1\n777 1\nclock 1\nminx 1\n222 1\npyram 1\nskewb 1\nsq1 1\n333 1\n333 1\n333bf 1\n333fm 1\n555 1\n666 1\n777 1\n";
 
 const NINE: &[&str] = &["sheet", "--seed", ZEROS, "--workers", "9"];
 

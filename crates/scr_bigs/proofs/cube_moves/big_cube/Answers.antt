@@ -36,7 +36,7 @@ push_turn-requires-clause-of_event g c =
 pub loop-made-preserved : goal.loop-made-preserved
 loop-made-preserved g c =
     let before = c.loop-made.invariant in
-    let turns = ap (λ (s : Written). s.turns) c.push_turn.ensures in
+    let turns = ap (λ (s : Written). s.turns) c.push_turn.ensures.value in
     let size = ap length turns ∙ length_push c.loop-made.scramble.turns c.turn_at.result in
     record {
       made = rw turns
@@ -44,7 +44,7 @@ loop-made-preserved g c =
           _ c.loop-made-test.true c.turn_count-made-end.ensures c.in_ok-choice.choice c.turn_at.result _ _ _ refl
           c.in_ok-choice.ensures.below (rw c.number_of-number.ensures.number at c.turn_at.ensures)
           (c.left_out_after-left_out.ensures c.turn_at.result c.turn_at.ensures) c.choose.ensures.same_words);
-      event = ap (λ (s : Written). s.event) c.push_turn.ensures ∙ before.event;
+      event = ap (λ (s : Written). s.event) c.push_turn.ensures.value ∙ before.event;
       count = omega (arith, size, before.count);
       room = omega (arith, before.room, c.choose.ensures.at_most, c.requires.few);
     }

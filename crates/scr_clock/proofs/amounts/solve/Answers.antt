@@ -5,14 +5,15 @@ use Rattle.std.proofs.lemmas.List.Edits.{fill_by_more}
 use Rattle.scr_clock.specs.Dials.{IsClock, solved}
 use Rattle.scr_clock.specs.Held.{clock_after}
 use Rattle.scr_clock.specs.Written.{written}
-use Rattle.scr_clock.proofs.AmountLaws.{counts, amounts_of, amounts_by_rows, IsClock-amounts_of, amounts_of-give, amounts_of-only}
+use Rattle.scr_clock.specs.declared.amounts.TheConstants.{AMOUNTS}
+use Rattle.scr_clock.proofs.AmountLaws.{amounts_of, amounts_by_rows, IsClock-amounts_of, amounts_of-give, amounts_of-only}
 use Rattle.scr_clock.proofs.amounts.solve.Goals as goal
 
 pub loop-turn-preserved : goal.loop-turn-preserved
 loop-turn-preserved c = record {
   fourteen = omega (arith, length-set {A = ℕ});
   by_rows = rw c.hour.ensures
-      (fill_by_more (λ k. sum (products (get_or counts k []) c.dials-dials.result) % 12) c.loop-turn.amounts c.loop-turn.turn 0
+      (fill_by_more (λ k. sum (products (get_or AMOUNTS k []) c.dials-dials.result) % 12) c.loop-turn.amounts c.loop-turn.turn 0
       (omega (arith, c.loop-turn.invariant.fourteen)) c.loop-turn.invariant.by_rows);
 }
 

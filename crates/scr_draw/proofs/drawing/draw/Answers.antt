@@ -21,7 +21,7 @@ pub returns-then-needs_at_least-clause-draws : goal.returns-then-needs_at_least-
 returns-then-needs_at_least-clause-draws g c =
     let event = c.args.puzzle.now in
     Draws-exact _ _ c.args.least c.count-count.ensures.numbering (λ s. g.P.Permit.needs event s c.args.least)
-    (λ s valid. c.is_exact.ensures s c.args.least c.requires.least_in_range valid) _ _
+    (λ s valid. g.met.P.Permit.exact event s c.args.least c.count-count.ensures.told c.requires.least_in_range valid) _ _
     (ok_is _ _ (returns-then-needs_at_least-clause-state g c))
 
 pub returns-then-needs_at_least-clause-taken : goal.returns-then-needs_at_least-clause-taken
@@ -53,7 +53,7 @@ pub returns-clause-draws : goal.returns-clause-draws
 returns-clause-draws g c =
     let event = c.args.puzzle.now in
     Draws-exact _ _ c.args.least c.count-count.ensures.numbering (λ s. g.P.Permit.needs event s c.args.least)
-    (λ s valid. c.is_exact.ensures s c.args.least c.requires.least_in_range valid) _ _
+    (λ s valid. g.met.P.Permit.exact event s c.args.least c.count-count.ensures.told c.requires.least_in_range valid) _ _
     (ok_is _ _ (returns-clause-state g c))
 
 pub returns-clause-taken : goal.returns-clause-taken

@@ -7,8 +7,8 @@ returns g c =
     record {
       fair = λ least range.
           IsFairFor-random _ _ least c.count.ensures.numbering (λ s. g.P.Permit.needs event s least)
-          (λ s valid. c.is_exact.ensures s least range valid) c.requires.reached;
+          (λ s valid. g.met.P.Permit.exact event s least c.count.ensures.told range valid) c.requires.reached;
       one_outcome = λ least range.
           HasOneOutcome-random _ _ least c.count.ensures.numbering (λ s. g.P.Permit.needs event s least)
-          (λ s valid. c.is_exact.ensures s least range valid) c.requires.reached;
+          (λ s valid. g.met.P.Permit.exact event s least c.count.ensures.told range valid) c.requires.reached;
     }

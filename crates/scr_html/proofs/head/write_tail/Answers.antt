@@ -1,5 +1,9 @@
-use Rattle.scr_markup.proofs.AddsLemmas.{adds_then}
+use Rattle.std.proofs.Common.{string_bytes, [], ◌∷◌, ◌++◌, ap, ◌∙◌, append_assoc, codes}
+use Rattle.scr_markup.specs.Tokens.{Close, text_of_tokens}
 use Rattle.scr_html.proofs.head.write_tail.Goals as goal
 
 pub returns : goal.returns
-returns c = adds_then _ _ _ _ _ c.in_ok-end.ensures c.in_ok-end-2.ensures
+returns c =
+    c.in_ok-close-2.ensures.written
+    ∙ ap (λ page. page ++ text_of_tokens (Close (codes "html") ∷ [])) c.in_ok-close.ensures.written
+    ∙ append_assoc (string_bytes c.args.page.now) (text_of_tokens (Close (codes "body") ∷ [])) (text_of_tokens (Close (codes "html") ∷ []))

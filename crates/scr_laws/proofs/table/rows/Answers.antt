@@ -10,7 +10,7 @@ use Rattle.scr_table.specs.Distances.{IsGap, IsFirstGap}
 use Rattle.scr_table.specs.Lines.{TableLine, HasNoGap}
 use Rattle.scr_table.specs.Row.{row_coordinate, row_line}
 use Rattle.scr_table.proofs.LineLaws.{no_gaps-line}
-use Rattle.scr_table.proofs.RowLaws.{row_least, row_distance, row_entry, row_first_word, leads_from_0, leads_from_2}
+use Rattle.scr_table.proofs.RowLaws.{row_least, row_stays, row_distance, row_entry, row_first_word, leads_from_0, leads_from_2}
 use Rattle.scr_laws.proofs.table.rows.Goals as goal
 
 pub returns-clause-distance : goal.returns-clause-distance
@@ -25,6 +25,7 @@ returns-clause-no_first_word _ = λ first. omega (arith, row_least 3 2 (0 ∷ []
 pub returns-clause-measures : goal.returns-clause-measures
 returns-clause-measures _ = record {
   positions = refl;
+  stays_below = row_stays 3;
   exact = λ p lt. let P : ℕ → Type 0 = λ d. IsDistance (moved (row_coordinate 3)) (IsGoal (row_coordinate 3)) p d in subst P (sym (row_entry p lt)) (row_distance p lt);
   within = λ p lt. omega (arith, row_entry p lt);
 }

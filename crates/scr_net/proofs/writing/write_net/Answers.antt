@@ -1,21 +1,25 @@
+use Rattle.std.proofs.Common.{arith}
 use Rattle.std.proofs.lemmas.Result.{err_from_is_err_and}
-use Rattle.scr_outside.proofs.ChangeLemmas.{written-none, written-more, written-part, written-last, written-at}
-use Rattle.scr_net.proofs.TextLaws.{net_text-upper, net_text-middle}
+use Rattle.scr_outside.proofs.ChangeLemmas.{written-none, written-more, written-part, written-at, written-all}
+use Rattle.scr_net.specs.NetText.{net_lines}
+use Rattle.scr_net.proofs.TextLaws.{next_line, no_line, lines-long, text-is}
 use Rattle.scr_net.proofs.writing.write_net.Goals as goal
 
-pub returns-in_err-write_beside : goal.returns-in_err-write_beside
-returns-in_err-write_beside g c =
-    let p = err_from_is_err_and c.from_residual.result c.from_residual.ensures.1 in
-    rw p.1 (written-part _ (written-at (net_text-upper g.row.SIDE c.args.net.now) written-none) c.in_err-write_beside.ensures)
+pub loop-place-init : goal.loop-place-init
+loop-place-init g c = written-at (text-is g.row.SIDE c.args.net.now) written-none
 
-pub returns-in_err-write_beside-2 : goal.returns-in_err-write_beside-2
-returns-in_err-write_beside-2 g c =
-    let p = err_from_is_err_and c.from_residual-in_err-write_beside-2.result c.from_residual-in_err-write_beside-2.ensures.1 in
-    let upper = written-more (written-at (net_text-upper g.row.SIDE c.args.net.now) written-none) c.in_ok-write_beside.ensures in
-    rw p.1 (written-part _ (written-at (net_text-middle g.row.SIDE c.args.net.now) upper) c.in_err-write_beside-2.ensures)
+pub returns-in_err-write_line : goal.returns-in_err-write_line
+returns-in_err-write_line g c =
+    let p = err_from_is_err_and c.from_residual.result c.from_residual.ensures.1 in
+    let next = next_line (net_lines g.row.SIDE c.args.net.now) c.loop-place.place (omega (arith, lines-long g.row.SIDE c.args.net.now)) in
+    rw p.1 (written-part _ (written-at next c.loop-place.invariant) (rw (c.as_str.ensures.value, c.net_line.ensures.line) at c.in_err-write_line.ensures))
+
+pub loop-place-preserved : goal.loop-place-preserved
+loop-place-preserved g c =
+    let next = next_line (net_lines g.row.SIDE c.args.net.now) c.loop-place.place (omega (arith, lines-long g.row.SIDE c.args.net.now)) in
+    written-more (written-at next c.loop-place.invariant) (rw (c.as_str.ensures.value, c.net_line.ensures.line) at c.in_ok-write_line.ensures)
 
 pub returns : goal.returns
 returns g c =
-    let upper = written-more (written-at (net_text-upper g.row.SIDE c.args.net.now) written-none) c.in_ok-write_beside.ensures in
-    written-last _ _ c.write_beside-3.result
-    (written-more (written-at (net_text-middle g.row.SIDE c.args.net.now) upper) c.in_ok-write_beside-2.ensures) c.write_beside-3.ensures
+    written-all
+    (written-at (no_line (net_lines g.row.SIDE c.args.net.now) c.loop-place.place (omega (arith, lines-long g.row.SIDE c.args.net.now))) c.loop-place.invariant)

@@ -5,8 +5,8 @@ use Rattle.scr_pages.proofs.look.end_pages.Goals as goal
 
 pub returns-in_ok-write_tail : goal.returns-in_ok-write_tail
 returns-in_ok-write_tail c =
-    ends-html c.args.look.now.html (look_of c.args.look.now) (string_bytes c.args.page.now) (string_bytes c.write_tail.new.page)
+    ends-html (look_of c.args.look.now) (string_bytes c.args.page.now) (string_bytes c.write_tail.new.page)
     c.if-look.true c.requires c.in_ok-write_tail.ensures
 
 pub returns-else-look : goal.returns-else-look
-returns-else-look c = ends-text (look_of c.args.look.now) (string_bytes c.args.page.now) c.requires
+returns-else-look c = ends-text (look_of c.args.look.now) (string_bytes c.args.page.now) c.if-look.false c.requires

@@ -14,7 +14,7 @@ pub write_groups-requires-clause-count : goal.write_groups-requires-clause-count
 write_groups-requires-clause-count g c =
     let is = c.requires.checked in
     let sheet = c.in_ok-groups.ensures.groups in
-    let same = c.sheets_are_read_back.ensures.one c.args.bytes.now sheet.0 is.surveyed.rounds sheet.1 is.surveyed.sheet in
+    let same = c.sheet_groups.ensures.one sheet.0 is.surveyed.rounds sheet.1 is.surveyed.sheet in
     wanted-few (asked_of c.args.asked.now) c.args.bytes.now c.args.checked.now is c.skip.new.groups
     (wanted-left (asked_of c.args.asked.now) c.args.bytes.now c.args.checked.now is sheet.0 c.in_ok-groups.groups c.skip.new.groups same sheet.2 c.skip.ensures)
 
@@ -22,7 +22,7 @@ pub write_groups-requires-clause-sheet : goal.write_groups-requires-clause-sheet
 write_groups-requires-clause-sheet g c =
     let is = c.requires.checked in
     let sheet = c.in_ok-groups.ensures.groups in
-    let same = c.sheets_are_read_back.ensures.one c.args.bytes.now sheet.0 is.surveyed.rounds sheet.1 is.surveyed.sheet in (
+    let same = c.sheet_groups.ensures.one sheet.0 is.surveyed.rounds sheet.1 is.surveyed.sheet in (
       is.surveyed.rounds,
       c.deref.ensures.value ∙ is.surveyed.marks,
       wanted-in-sheet (asked_of c.args.asked.now) c.args.bytes.now c.args.checked.now is c.skip.new.groups
@@ -33,7 +33,7 @@ pub returns : goal.returns
 returns g c =
     let is = c.requires.checked in
     let sheet = c.in_ok-groups.ensures.groups in
-    let same = c.sheets_are_read_back.ensures.one c.args.bytes.now sheet.0 is.surveyed.rounds sheet.1 is.surveyed.sheet in
+    let same = c.sheet_groups.ensures.one sheet.0 is.surveyed.rounds sheet.1 is.surveyed.sheet in
     let asked = asked_of c.args.asked.now in
     let rounds = is.surveyed.rounds in
     let name = c.as_str.result.now in

@@ -1,10 +1,11 @@
-use Rattle.std.proofs.Common.{List, [], ◌++◌, map, take, length, sym, ◌∙◌, arith, string_bytes, subst}
+use Rattle.std.proofs.Common.{List, ℕ, refl, [], ◌++◌, map, take, length, sym, ◌∙◌, arith, string_bytes, subst}
 use Rattle.std.proofs.lemmas.Bool.{eqb-true}
 use Rattle.std.proofs.lemmas.Result.{err_from_is_err_and}
-use Rattle.scr_outside.proofs.ChangeLemmas.{Gains-nothing, Gains-append, Falters-after}
+use Rattle.scr_outside.specs.Change.{change_of}
+use Rattle.scr_outside.proofs.ChangeLemmas.{Gains-nothing, Gains-append, Falters-after, Falters-longer}
 use Rattle.scr_layout.specs.Group.{Group}
 use Rattle.scr_pages.specs.Shown.{shown_group}
-use Rattle.scr_pages.specs.Pages.{ArePages}
+use Rattle.scr_pages.specs.Pages.{AreBegun, ArePages, pages_end}
 use Rattle.scr_pages.specs.Writing.{look_of}
 use Rattle.scr_pages.proofs.PageLemmas.{some-begun}
 use Rattle.scr_pages.proofs.WritingLemmas.{next-pages, written-next, falters-next, wanting-here, ended-pages, in-sheet, no-part, taken-all}
@@ -13,9 +14,20 @@ use Rattle.scr_pages.proofs.writing.write_groups.Goals as goal
 pub returns-in_err-begin_pages : goal.returns-in_err-begin_pages
 returns-in_err-begin_pages g c = λ rounds are.
     let p = err_from_is_err_and c.from_residual.result c.from_residual.ensures.1 in
-    let start = some-begun c.args.look.now.html (look_of c.args.look.now) in
+    let look = look_of c.args.look.now in
+    let start = some-begun c.args.look.now.html look c.requires.name in
+    let whole = start.0 ++ pages_end look in
     rw (p.1, p.2)
-    (0, start.0, start.1, ([], no-part start.0, Gains-nothing))
+    (0, whole, (start.0, start.1, refl), ([], no-part whole, Gains-nothing))
+
+pub returns-in_err-write_all : goal.returns-in_err-write_all
+returns-in_err-write_all g c = λ rounds are.
+    let p = err_from_is_err_and c.from_residual-in_err-write_all.result c.from_residual-in_err-write_all.ensures.1 in
+    let look = look_of c.args.look.now in
+    let bytes = c.as_bytes.result.now in
+    let begun = subst (λ (text : List ℕ). AreBegun look [] text) (sym (c.as_bytes.ensures.value ∙ c.as_str.ensures.value)) c.in_ok-begin_pages.ensures in
+    rw (p.1, p.2)
+    (0, bytes ++ pages_end look, (bytes, begun, refl), Falters-longer {change = change_of g.O.Sink.held g.O.Sink.faults c.args.out.now c.write_all.new.out} (pages_end look) c.in_err-write_all.ensures)
 
 pub shown-requires : goal.shown-requires
 shown-requires g c =

@@ -4,5 +4,5 @@ use Rattle.scr_search.proofs.numbers.list_each.Goals as goal
 
 pub returns : goal.returns
 returns g c = λ most there near.
-    IsNear-listed g.P.Part.views g.P.Part.extent c.are_views.ensures most c.args.jobs.now.lists.now c.run_chunks.new.out
+    IsNear-listed g.P.Part.views g.P.Part.extent c.requires.views most c.args.jobs.now.lists.now c.run_chunks.new.out
     (λ cube seen. omega (arith, c.requires.every cube seen)) c.run_chunks.ensures (c.are_all_there.ensures there) near

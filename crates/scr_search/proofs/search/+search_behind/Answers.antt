@@ -48,8 +48,8 @@ loop-place-init g t c =
       few = turns.few;
     }
 
-pub after-next-requires : goal.after-next-requires
-after-next-requires g t c = (c.loop-place.invariant.follow c.in-Some.place c.in-Some.ensures.taken).below
+pub after-next-requires-clause-place : goal.after-next-requires-clause-place
+after-next-requires-clause-place g t c = (c.loop-place.invariant.follow c.in-Some.place c.in-Some.ensures.taken).below
 
 pub turn-requires : goal.turn-requires
 turn-requires g t c = (c.loop-place.invariant.follow c.in-Some.place c.in-Some.ensures.taken).below
@@ -83,12 +83,15 @@ search_behind-requires g t c = λ κs lives.
         (
           lives.1,
           (
-            subst (λ w. IsAt v cube w c.after-next.result) (sym by) at,
+            c.requires.views,
             (
-              λ none.
-                  subst (λ w. ends_with v.is_last w ≡ true) (sym by)
-                  (ap (λ o. option_map_or v.is_last o true) (last-push word turn) ∙ c.loop-place.invariant.last (omega (arith, none, c.if-left-eq0.false)) place c.in-Some.ensures.taken),
-              omega (arith, ap length by, length-append word (turn ∷ []), c.requires.few, c.if-left-eq0.false),
+              subst (λ w. IsAt v cube w c.after-next.result) (sym by) at,
+              (
+                λ none.
+                    subst (λ w. ends_with v.is_last w ≡ true) (sym by)
+                    (ap (λ o. option_map_or v.is_last o true) (last-push word turn) ∙ c.loop-place.invariant.last (omega (arith, none, c.if-left-eq0.false)) place c.in-Some.ensures.taken),
+                omega (arith, ap length by, length-append word (turn ∷ []), c.requires.few, c.if-left-eq0.false),
+              ),
             ),
           ),
         ),

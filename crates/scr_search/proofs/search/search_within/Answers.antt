@@ -3,13 +3,13 @@ use Rattle.scr_combinatorics.specs.Words.{words_behind}
 use Rattle.scr_table.proofs.WordLists.{numbers_from-next, numbers_from-end}
 use Rattle.scr_search.specs.Orderly.{ends_with}
 use Rattle.scr_search.specs.Search.{IsAt}
-use Rattle.scr_search.specs.Views.{is_whole}
+use Rattle.scr_search.specs.Views.{AreViews, is_whole}
 use Rattle.scr_search.proofs.Outcomes.{IsLeft-all, IsLeft-found, IsLeft-none, IsLeft-passed}
 use Rattle.scr_search.proofs.SearchSteps.{none_behind, words_from-least}
 use Rattle.scr_search.proofs.search.search_within.Goals as goal
 
-pub least_from-left-requires : goal.least_from-left-requires
-least_from-left-requires g c = (c.requires.at.there, c.requires.at.shows)
+pub least_from-left-requires-clause-at : goal.least_from-left-requires-clause-at
+least_from-left-requires-clause-at g c = (c.requires.at.there, c.requires.at.shows)
 
 pub loop-left-init : goal.loop-left-init
 loop-left-init g c =
@@ -23,6 +23,7 @@ pub search_behind-requires : goal.search_behind-requires
 search_behind-requires g c =
     let same = c.loop-left.invariant.0 in
     record {
+      views = subst (AreViews g.P.Part.views) c.extent.ensures.same c.extent.ensures.views;
       at = subst (λ w. IsAt g.P.Part.views c.args.cube.now w c.args.at) (sym same) c.requires.at;
       last = λ _. subst (λ w. ends_with g.P.Part.views.is_last w ≡ true) (sym same) c.requires.last;
       few = omega (arith, ap length same, c.requires.few, c.loop-left-test.true, ap (λ e. e.most) c.extent.ensures.same);

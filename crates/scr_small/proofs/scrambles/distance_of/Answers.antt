@@ -9,12 +9,12 @@ use Rattle.scr_small.proofs.scrambles.distance_of.Goals as goal
 pub returns-clause-measures : goal.returns-clause-measures
 returns-clause-measures g c =
     let p = g.P.OneTable in
-    (IsTableOf-built p.shown p.TABLE c.is_solved_by_table.ensures c.args.tables.now c.requires c.only.ensures.built).measures
+    (IsTableOf-built p.shown p.TABLE c.number.ensures.solved c.args.tables.now c.requires c.only.ensures.built).measures
 
 pub returns-clause-exact : goal.returns-clause-exact
 returns-clause-exact g c =
     let p = g.P.OneTable in
-    let l = c.is_solved_by_table.ensures in
+    let l = c.number.ensures.solved in
     let tables = c.args.tables.now in
     let s = c.args.state.now in
     let entry = same_entry c.only.result.now tables.distances c.number.result (p.shown.numbered.number_of s) c.distance.result

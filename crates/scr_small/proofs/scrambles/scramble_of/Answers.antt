@@ -9,13 +9,13 @@ use Rattle.scr_small.proofs.scrambles.scramble_of.Goals as goal
 
 pub descend-word-requires : goal.descend-word-requires
 descend-word-requires g c =
-    let l = c.is_solved_by_table.ensures in
+    let l = c.number.ensures.solved in
     let below = l.lawful.numbering.one_to_one.below c.args.state.now c.number.ensures.valid in
     rw (ap small_line c.requires ∙ l.of_event) (omega (arith, below, c.number.ensures.number))
 
 pub numbered_scramble-requires-clause-below : goal.numbered_scramble-requires-clause-below
 numbered_scramble-requires-clause-below g c =
-    let l = c.is_solved_by_table.ensures in
+    let l = c.number.ensures.solved in
     let first = rw (ap small_line c.requires ∙ l.of_event) at c.descend-word.ensures.first in
     let each = All-turns (state_coordinate g.P.OneTable.shown) c.number.result c.descend-word.result.items first.leads in
     rw (c.TABLE.ensures, c.deref.ensures.0) (λ k d lt. omega (arith, each k d lt, l.own))
@@ -23,7 +23,7 @@ numbered_scramble-requires-clause-below g c =
 -- the word that was walked is the first, so that this is the scramble
 walked : (g : Over) (c : goal.After-inverse g) → IsScrambleOf g.P.OneTable.shown c.args.state.now c.inverse.result.turns
 walked g c =
-    let l = c.is_solved_by_table.ensures in
+    let l = c.number.ensures.solved in
     let first = rw (ap small_line c.requires ∙ l.of_event) at c.descend-word.ensures.first in
     rw (c.inverse.ensures.value, c.numbered_scramble.ensures, c.TABLE.ensures, c.deref.ensures.0, ← l.letters, ← l.taken_back)
     (IsScrambleOf-walked g.P.OneTable.shown l.lawful c.args.state.now c.number.ensures.valid c.number.result c.number.ensures.number _ first)
@@ -31,7 +31,7 @@ walked g c =
 pub returns : goal.returns
 returns g c =
     let p = g.P.OneTable in
-    let l = c.is_solved_by_table.ensures in
+    let l = c.number.ensures.solved in
     let s = c.args.state.now in
     let valid = c.number.ensures.valid in
     let turns = c.inverse.result.turns in

@@ -1,4 +1,4 @@
-use Rattle.scr_sq1solve.proofs.TotalLaws.{IsEarlier-shape_words, Contains-shape_words, IsStageWord-listed, IsSquared-iff, IsShapeWord-iff}
+use Rattle.scr_sq1tables.proofs.ShapeWordLaws.{IsEarlier-shape_words, Contains-shape_words, IsStageWord-listed, IsSquared-iff, IsShapeWord-iff}
 use Rattle.scr_solver_laws.proofs.sq1solve.shape_words.Goals as goal
 
 pub returns : goal.returns

@@ -41,8 +41,8 @@ overflow_add-result c =
       | else-equator w ↦ omega (arith, low, w.bit-is)
     ]
 
-pub returns : goal.returns
-returns c =
+pub returns-clause-key : goal.returns-clause-key
+returns-clause-key c =
     let p = c.loop-place.place in
     let made : c.loop-place.key ≡ units_key (drop 0 c.units-units.result) =
     c.loop-place.invariant ∙ ap (λ k. units_key (drop k c.units-units.result)) {x = p} {y = 0} (omega arith) in

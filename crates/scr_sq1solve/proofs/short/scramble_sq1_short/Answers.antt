@@ -8,7 +8,7 @@ use Rattle.scr_notation.specs.Turning.{opposite}
 use Rattle.scr_notation.specs.Written.{Written}
 use Rattle.scr_sq1.specs.Units.{solved_sq1, sq1_after}
 use Rattle.scr_sq1solve.specs.Counts.{twists_in}
-use Rattle.scr_sq1solve.specs.Totals.{is_shape_word}
+use Rattle.scr_sq1tables.specs.ShapeWords.{is_shape_word}
 use Rattle.scr_notation.proofs.TidyingLaws.{length-back}
 use Rattle.scr_sq1solve.proofs.Lengths.{twists-back}
 use Rattle.scr_sq1solve.proofs.TotalLaws.{play-total_back}
@@ -86,7 +86,7 @@ returns-clause-the_scramble c =
         twists = omega (arith, ap twists_in (made c), twists-back least.turns, h.within.twists);
         turns = omega (arith, ap length (made c), length-back least.turns, h.within.turns);
       };
-      gives = ap (play sq1_after solved_sq1) (made c) ∙ play-total_back s h.shortest.word least.turns c.is_valid.ensures h.shortest.is;
+      gives = ap (play sq1_after solved_sq1) (made c) ∙ play-total_back s h.shortest.word least.turns c.shape_words-words.ensures.valid h.shortest.is;
     }
 
 pub returns-clause-no_more : goal.returns-clause-no_more
@@ -100,5 +100,5 @@ returns-clause-no_more c = λ turns scramble.
     omega (
       arith,
       ap twists_in (made c),
-      no_more_twists s words least turns first.0 c.is_valid.ensures shortest there first.1 scramble,
+      no_more_twists s words least turns first.0 c.shape_words-words.ensures.valid shortest there first.1 scramble,
     )

@@ -3,8 +3,9 @@ use Rattle.std.specs.Prelude.{is_some}
 use Rattle.scr_combinatorics.specs.Play.{play}
 use Rattle.scr_sq1.specs.Units.{sq1_after}
 use Rattle.scr_sq1solve.specs.Counts.{Costs}
-use Rattle.scr_sq1solve.specs.declared.stage_letters.Letters.TheVariants.{OfShapes}
-use Rattle.scr_sq1solve.proofs.TotalLaws.{All-shape_word, play-shape_word, shape_word-goal, Costs-spelled}
+use Rattle.scr_sq1tables.specs.declared.stage_letters.StageLetters.TheVariants.{OfShapes}
+use Rattle.scr_sq1solve.proofs.TotalLaws.{Costs-spelled}
+use Rattle.scr_sq1tables.proofs.ShapeWordLaws.{All-shape_word, play-shape_word, shape_word-goal}
 use Rattle.scr_sq1solve.proofs.totals.shape_walk.Goals as goal
 
 pub walked-requires-clause-numbers : goal.walked-requires-clause-numbers

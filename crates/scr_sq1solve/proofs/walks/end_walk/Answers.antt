@@ -3,7 +3,7 @@ use Rattle.scr_combinatorics.specs.Play.{play}
 use Rattle.scr_combinatorics.proofs.OneLetter.{Ends, ending_word, some_letter}
 use Rattle.scr_notation.specs.Written.{Written}
 use Rattle.scr_sq1.specs.Units.{sq1_after}
-use Rattle.scr_sq1solve.specs.Letters.{stage_of, letter_of}
+use Rattle.scr_sq1tables.specs.Letters.{stage_of, letter_of}
 use Rattle.scr_sq1solve.proofs.TotalLaws.{IsEnding-short, IsWalk-played, walk-costs}
 use Rattle.scr_sq1solve.proofs.walks.end_walk.Goals as goal
 

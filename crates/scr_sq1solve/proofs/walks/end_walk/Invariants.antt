@@ -1,6 +1,6 @@
 use Rattle.scr_combinatorics.proofs.OneLetter.{NoneBefore}
 use Rattle.scr_sq1.specs.Units.{sq1_after}
-use Rattle.scr_sq1solve.specs.Letters.{stage_of}
+use Rattle.scr_sq1tables.specs.Letters.{stage_of}
 use Rattle.scr_sq1solve.proofs.walks.end_walk.Given as goal
 
 abbrev pub invariant-loop-number : goal.invariant-loop-number

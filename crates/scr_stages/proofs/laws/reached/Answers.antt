@@ -1,5 +1,7 @@
+use Rattle.std.proofs.Common.{[], ◌∷◌}
 use Rattle.scr_stages.proofs.SolutionLaws.{IsReached-iff}
 use Rattle.scr_stages.proofs.laws.reached.Goals as goal
 
 pub returns : goal.returns
-returns c = IsReached-iff _ c.all-built.ensures.built
+returns c =
+    let t = c.args.tables.now in IsReached-iff (t.flips ∷ t.slice ∷ t.tetrads ∷ t.halves ∷ []) t.built

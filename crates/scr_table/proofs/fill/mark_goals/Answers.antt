@@ -3,7 +3,7 @@ use Rattle.scr_table.proofs.GoalsMarked.{AreMarkedBelow-next, AreKnown-marked}
 use Rattle.scr_table.proofs.fill.mark_goals.Goals as goal
 
 pub overflow_add-from : goal.overflow_add-from
-overflow_add-from g c = omega (arith, c.in-Some.ensures.goal.below, c.count-positions.ensures)
+overflow_add-from g c = omega (arith, c.in-Some.ensures.goal.below, c.count-positions.ensures.count)
 
 pub loop-goal-preserved : goal.loop-goal-preserved
 loop-goal-preserved g c =

@@ -6,7 +6,7 @@ use Rattle.scr_table.proofs.levels.next_level.Goals.{else-checked-via-then-check
 
 pub returns-clause-known : goal.returns-clause-known
 returns-clause-known g c =
-    AreKnown-behind (g.C.Coord.coordinate c.args.coord.now) c.stays_below.ensures c.args.level (omega arith) c.run_chunks.new.out
+    AreKnown-behind (g.C.Coord.coordinate c.args.coord.now) c.count-count.ensures.stays_below c.args.level (omega arith) c.run_chunks.new.out
     c.args.entries.now c.enter_blocks.new.entries (omega arith) (omega arith) c.enter_blocks.ensures c.args.checked c.requires.marked c.requires.known
     c.run_chunks.ensures (λ is.
     elim c.else-checked.branch [

@@ -8,7 +8,7 @@ invariant-pages l = record {
   within : l.from ≤ l.slots;
   counted : l.number ≤ l.from;
   begun : l.from ≡ 0 → string_bytes l.text ≡ string_bytes l.fn.text;
-  adds : AddsSlots l.competition (take l.from (slots_of_group l.group)) (string_bytes l.fn.text) (string_bytes l.text);
+  adds : AddsSlots l.competition (take l.from (slots_of_group l.pictures l.group)) (string_bytes l.fn.text) (string_bytes l.text);
 }
 
 abbrev pub decreases-pages : goal.decreases-pages

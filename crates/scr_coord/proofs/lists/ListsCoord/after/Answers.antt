@@ -26,8 +26,8 @@ rank-requires g c =
 pub overflow_cast-result : goal.overflow_cast-result
 overflow_cast-result g c = omega (arith, c.rank.ensures.below, c.args.self.now.fits)
 
-pub returns : goal.returns
-returns g c =
+pub returns-clause-leads : goal.returns-clause-leads
+returns-clause-leads g c =
     after_read (pieces_view g.row.N) c.args.self.now.turns.now c.args.position c.args.turn c.rank.result c.index-self-turn.result c.unrank-seen.result
     c.requires.turn (c.unrank-seen.ensures.list ∙ ap (permutation_at g.row.N) c.from.ensures)
     (c.rank.ensures.number ∙ ap permutation_number c.pick_into.ensures)

@@ -36,8 +36,8 @@ rank-requires g c =
 pub overflow_cast-result : goal.overflow_cast-result
 overflow_cast-result g c = omega (arith, c.rank.ensures.below, c.args.self.now.fits)
 
-pub returns : goal.returns
-returns g c =
+pub returns-clause-leads : goal.returns-clause-leads
+returns-clause-leads g c =
     let n = g.row.N in
     let k = g.row.K in
     let me = c.args.self.now in

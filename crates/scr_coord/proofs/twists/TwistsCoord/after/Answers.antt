@@ -40,8 +40,8 @@ rank-requires g c =
     let valid = (IsListView-twists n m me.size.0 me.base.0).turned c.unrank-seen.result r c.unrank-seen.ensures.valid turn in
     (omega (arith, me.size), (me.size, (me.base, subst (IsTwists n m) (sym made) valid)))
 
-pub returns : goal.returns
-returns g c =
+pub returns-clause-leads : goal.returns-clause-leads
+returns-clause-leads g c =
     let m = g.row.BASE in
     let me = c.args.self.now in
     let r = made_by (get_or me.turns.now c.args.turn c.index-self-turn.result) in

@@ -13,4 +13,4 @@ loop-k-preserved g c =
       | in-None w ↦ w.into-is ∙ ap (value_at c.args.values.now) (sym w.in-None.is)
     ] in
     each_written (λ k entry. entry ≡ value_at c.args.values.now (show.after (c.args.start + k) c.args.turn)) _ c.loop-k.k _ (omega arith)
-    c.loop-k.invariant (here ∙ ap (value_at c.args.values.now) c.after.ensures)
+    c.loop-k.invariant (here ∙ ap (value_at c.args.values.now) c.after.ensures.leads)

@@ -19,5 +19,5 @@ returns-clause-goal g c =
     let high = g.H.Coord.coordinate c.args.self.now.high in
     let a = c.in_ok-low.low in
     let b = c.in_ok-high.high in
-    subst (λ n. IsNextGoal (product_coordinate low high) (low.count * c.args.row) (a + n * b)) (sym c.count.ensures)
+    subst (λ n. IsNextGoal (product_coordinate low high) (low.count * c.args.row) (a + n * b)) (sym c.count.ensures.count)
     (rows-goal low high c.args.row a b c.in_ok-high.ensures.goal c.in_ok-low.ensures.goal)

@@ -10,7 +10,7 @@ returns-then-not-is_goal-clause-none g c =
     let high = g.H.Coord.coordinate c.args.self.now.high in
     let none : c.is_goal.result ≡ false = grind (arith, c.if-not-is_goal.true) in
     row-none-high low high c.args.from c.requires
-    (ap (λ n. high.is_goal (c.args.from / n)) (sym c.count-low_count.ensures) ∙ sym c.is_goal.ensures ∙ none)
+    (ap (λ n. high.is_goal (c.args.from / n)) (sym c.count-low_count.ensures.count) ∙ sym c.is_goal.ensures ∙ none)
 
 pub returns-clause-goal : goal.returns-clause-goal
 returns-clause-goal g c =
@@ -18,6 +18,6 @@ returns-clause-goal g c =
     let high = g.H.Coord.coordinate c.args.self.now.high in
     let a = c.in_ok-low.low in
     let is : IsGoal high (c.args.from / c.count-low_count.result) = sym c.is_goal.ensures ∙ grind (arith, c.if-not-is_goal.false) in
-    subst (λ n. IsNextGoal (product_coordinate low high) c.args.from (a + n * (c.args.from / n))) (sym c.count-low_count.ensures)
-    (row-goal low high c.args.from c.requires a (subst (λ n. IsGoal high (c.args.from / n)) c.count-low_count.ensures is)
-    (subst (λ n. IsNextGoal low (c.args.from % n) a) c.count-low_count.ensures c.in_ok-low.ensures.goal))
+    subst (λ n. IsNextGoal (product_coordinate low high) c.args.from (a + n * (c.args.from / n))) (sym c.count-low_count.ensures.count)
+    (row-goal low high c.args.from c.requires a (subst (λ n. IsGoal high (c.args.from / n)) c.count-low_count.ensures.count is)
+    (subst (λ n. IsNextGoal low (c.args.from % n) a) c.count-low_count.ensures.count c.in_ok-low.ensures.goal))

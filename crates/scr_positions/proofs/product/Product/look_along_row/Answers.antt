@@ -15,15 +15,15 @@ returns-clause-entered g c =
     let values = c.args.values.now in
     let from = c.max-from.result - c.args.start in
     let size = c.min-to.result - c.args.start - from in
-    let first = ap (λ n. c.args.high * n) c.count-low_count.ensures in
+    let first = ap (λ n. c.args.high * n) c.count-low_count.ensures.count in
     let within = row_of low.count high.count c.args.high p (omega arith) row in
     let place : (c.max-from.result - c.args.high * c.count-low_count.result) + (k - from) ≡ p - c.args.high * low.count =
     omega (arith, within, first) in
     in_part from size c.args.into.now c.look_in_row.new.into (omega arith) (omega arith) k (omega (arith, within.0, first))
-    (omega (arith, within.1, first, c.count-low_count.ensures))
-    ∙ c.look_in_row.ensures (k - from) (omega (arith, within.1, first, c.count-low_count.ensures))
+    (omega (arith, within.1, first, c.count-low_count.ensures.count))
+    ∙ c.look_in_row.ensures (k - from) (omega (arith, within.1, first, c.count-low_count.ensures.count))
     ∙ ap (λ q. value_at values (side_by_side low.count (low.after q c.args.turn) c.after.result)) place
-    ∙ ap (λ o. value_at values (side_by_side low.count (low.after (p - c.args.high * low.count) c.args.turn) o)) c.after.ensures
+    ∙ ap (λ o. value_at values (side_by_side low.count (low.after (p - c.args.high * low.count) c.args.turn) o)) c.after.ensures.leads
     ∙ ap (value_at values) (sym (row_after low high c.args.high p c.args.turn within.0 within.1))
 
 pub returns-clause-kept : goal.returns-clause-kept
@@ -33,14 +33,14 @@ returns-clause-kept g c =
     let p = c.args.start + k in
     let from = c.max-from.result - c.args.start in
     let size = c.min-to.result - c.args.start - from in
-    let first = ap (λ n. c.args.high * n) c.count-low_count.ensures in
+    let first = ap (λ n. c.args.high * n) c.count-low_count.ensures.count in
     let out : (k < from) ⊎ (from + size ≤ k) =
     elim (cases_lt k from) [
       | inl less ↦ inl less
       | inr from_on ↦
           elim (cases_lt k (from + size)) [
             | inl to ↦
-                absurd (other (row_at low.count c.args.high p (omega (arith, first)) (omega (arith, first, c.count-low_count.ensures))).1)
+                absurd (other (row_at low.count c.args.high p (omega (arith, first)) (omega (arith, first, c.count-low_count.ensures.count))).1)
             | inr more ↦ inr more
           ]
     ] in

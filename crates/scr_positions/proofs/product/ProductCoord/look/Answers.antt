@@ -25,7 +25,7 @@ returns g c =
     subst (λ m. (c.args.start + k) / n < m) (sym c.div_ceil-high-end.ensures) (row_below n (c.args.start + k) end some (omega (arith, lt))) in
     let P : ℕ → Type 0 = λ m. (c.args.start + k) / m < c.div_ceil-high-end.result in
     let inside : (c.args.start + k) / low.count < c.div_ceil-high-end.result =
-    subst P c.count-low_count.ensures row in
+    subst P c.count-low_count.ensures.count row in
     c.loop-high.invariant k lt (omega arith)
 
 pub look_along_row-requires-clause-reached : goal.look_along_row-requires-clause-reached
@@ -34,8 +34,8 @@ look_along_row-requires-clause-reached g c =
     let some : 0 < size = grind (arith, c.is_empty.ensures, c.if-is_empty.false) in
     let count = (g.H.Coord.coordinate c.args.self.now.high).count in
     let fits : c.args.start + size ≤ c.count-low_count.result * count =
-    omega (arith, ap (λ n. n * count) c.count-low_count.ensures) in
+    omega (arith, ap (λ n. n * count) c.count-low_count.ensures.count) in
     let row = row_reached c.count-low_count.result count c.loop-high.high c.args.start size some fits (omega arith)
     (omega (arith, c.div_ceil-high-end.ensures)) in
-    let at = subst (λ n. (c.args.start < (c.loop-high.high + 1) * n) × (c.loop-high.high * n < c.args.start + size)) c.count-low_count.ensures row in
+    let at = subst (λ n. (c.args.start < (c.loop-high.high + 1) * n) × (c.loop-high.high * n < c.args.start + size)) c.count-low_count.ensures.count row in
     (at.0, omega (arith, at.1))

@@ -14,4 +14,4 @@ loop-place-preserved g c =
 pub returns-clause-left : goal.returns-clause-left
 returns-clause-left g c = λ cube more near shown.
     LeavesNear-looked g.P.Part.views c.args.at (IsInSet c.args.self.now) c.args.turns.bits c.loop-place.others.bits
-    c.loop-place.into.bits c.loop-place.invariant g.P.Part.extent c.are_views.ensures cube more c.in_default.ensures.none near shown
+    c.loop-place.into.bits c.loop-place.invariant g.P.Part.extent c.requires.views cube more c.in_default.ensures.none near shown

@@ -7,9 +7,9 @@ pub returns : goal.returns
 returns g c = λ cube turned seen at by.
     let v = g.P.Part.views in
     let e = g.P.Part.extent in
-    let are = c.are_views.ensures in
+    let are = c.requires.views in
     let self = c.args.self.now in
     let place = c.args.place in
     c.target.ensures (v.middle.number turned)
-    (shown-turned v v.middle are.middle (moves_coordinate self.middle) self.middle_shown cube turned c.args.block place seen (at ∙ number-block v e are cube seen) c.requires by)
-    ∙ sym (number-block v e are turned (seen-turned v v.middle are.middle cube turned place seen c.requires by))
+    (shown-turned v v.middle are.middle (moves_coordinate self.middle) self.middle_shown cube turned c.args.block place seen (at ∙ number-block v e are cube seen) c.requires.place by)
+    ∙ sym (number-block v e are turned (seen-turned v v.middle are.middle cube turned place seen c.requires.place by))

@@ -17,7 +17,7 @@ use Rattle.scr_search.proofs.search_tables.SearchTables.least_from.Goals as goal
 enough : (g : Over) (c : After-has g) (cube : CubeState) (n : ℕ) (w : List ℕ) → Shows g.P.Part.views cube c.args.at
     → Contains (words_of g.P.Part.views.turns n) w → leads g.P.Part.views.ends cube w ≡ true → c.distance-by_one.result ≤ n
 enough g c cube n w shows listed way =
-    let are = c.are_views.ensures in
+    let are = c.requires.views in
     let near = near-way (Sees-beside g.P.Part.extent.middle_first are.one are.middle) c.args.self.now.one_is.distances.measures cube c.one_index.result w
     shows.seen (c.one_index.ensures.shown cube shows) listed way in
     omega (arith, near, c.distance-by_one.ensures)

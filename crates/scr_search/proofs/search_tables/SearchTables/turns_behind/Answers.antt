@@ -4,7 +4,7 @@ use Rattle.scr_cube.specs.Cube333.{CubeState}
 use Rattle.scr_search.specs.Near.{LeavesNear}
 use Rattle.scr_search.specs.TurnSets.{contains_turn}
 use Rattle.scr_search.specs.Search.{IsAt, KeepsWays}
-use Rattle.scr_search.specs.Views.{one_line, other_line}
+use Rattle.scr_search.specs.Views.{AreViews, one_line, other_line}
 use Rattle.scr_search.proofs.Admissible.{LeavesWays-table}
 use Rattle.scr_search.proofs.SearchSteps.{KeepsWays-and, KeepsWays-behind, KeepsWays-last, KeepsWays-near, LeavesWays, below_count}
 use Rattle.scr_search.proofs.ViewLaws.{Sees-beside}
@@ -19,6 +19,7 @@ and-requires g c =
 
 pub turns_into-requires : goal.turns_into-requires
 turns_into-requires g c = record {
+  views = subst (AreViews g.P.Part.views) c.extent-extent.ensures.same c.extent-extent.ensures.views;
   few = c.and-turns.ensures.few;
   below = λ place is.
       let a = contains_turn c.behind.result.bits place in

@@ -9,7 +9,7 @@ use Rattle.scr_small.proofs.parts_line.PartsLineLine.moves.Goals as goal
 pub returns : goal.returns
 returns g c =
     let p = g.P.OneTable in
-    let l = c.is_solved_by_table.ensures in
+    let l = c.parts_of.ensures in
     IfOk-weaker c.of_moves.result _ _
     (λ moves shows.
     ShowsSame-through (state_coordinate p.shown) (product_coordinate (low_part p.shown p.TABLE.low) (high_part p.shown p.TABLE.low p.TABLE.high)) _

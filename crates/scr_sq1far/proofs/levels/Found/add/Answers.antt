@@ -11,7 +11,7 @@ use Rattle.scr_sq1far.proofs.levels.Found.add.Goals as goal
 pub returns-then-contains_key-clause-added : goal.returns-then-contains_key-clause-added
 returns-then-contains_key-clause-added c =
     HasLevel-listed c.args.level (level_in c.args.self.now) c.args.self.now.states.items (key_of c.args.state.now) c.key_of-key.result
-    c.requires.listed c.key_of-key.ensures (sym c.contains_key.ensures ∙ c.if-contains_key.true)
+    c.requires.listed c.key_of-key.ensures.key (sym c.contains_key.ensures ∙ c.if-contains_key.true)
 
 pub returns-then-contains_key-clause-found : goal.returns-then-contains_key-clause-found
 returns-then-contains_key-clause-found c = FindsMore-none c.args.level c.args.self.now c.requires.listed
@@ -23,13 +23,13 @@ returns-clause-found c =
     record {
       listed = subst (AreListed c.args.level (get nat_eq c.insert.new.self)) (sym items)
           (AreListed-added c.args.level (level_in c.args.self.now) (get nat_eq c.insert.new.self) c.args.self.now.states.items c.args.state.now
-          c.requires.listed c.is_valid.ensures c.requires.near
+          c.requires.listed c.key_of-key.ensures.valid c.requires.near
           (λ key. updates.0 key
-          ∙ ap (λ k. cond (nat_eq k key) (Some c.args.level) (level_in c.args.self.now key)) c.key_of-key.ensures));
+          ∙ ap (λ k. cond (nat_eq k key) (Some c.args.level) (level_in c.args.self.now key)) c.key_of-key.ensures.key));
       grows = search rules;
     }
 
 pub returns-clause-added : goal.returns-clause-added
 returns-clause-added c =
     let updates = of_on_ok c.insert.result (sym c.is_err.ensures.value ∙ c.if-is_err.false) c.insert.ensures.updates in
-    (c.args.level, omega arith, ap (get nat_eq c.insert.new.self) (sym c.key_of-key.ensures) ∙ updates.1)
+    (c.args.level, omega arith, ap (get nat_eq c.insert.new.self) (sym c.key_of-key.ensures.key) ∙ updates.1)

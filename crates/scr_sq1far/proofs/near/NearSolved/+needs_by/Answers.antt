@@ -12,7 +12,7 @@ use Rattle.scr_sq1far.proofs.near.NearSolved.+needs_by.Goals.{then-turn-twists+i
 
 pub returns-then-least-le7-clause-needed : goal.returns-then-least-le7-clause-needed
 returns-then-least-le7-clause-needed t c =
-    on_true c.needs.result (λ is. NeedsBy-needs c.args.twists c.args.state.now c.args.least (c.needs.ensures.0 is))
+    on_true c.needs.result (λ is. NeedsBy-needs c.args.twists c.args.state.now c.args.least (c.needs.ensures.exact.0 is))
 
 pub loop-turn-init : goal.loop-turn-init
 loop-turn-init t c = λ n r lt kind e. absurd (omega arith)
@@ -20,7 +20,7 @@ loop-turn-init t c = λ n r lt kind e. absurd (omega arith)
 pub returns-then-not-needs_by-clause-refused : goal.returns-then-not-needs_by-clause-refused
 returns-then-not-needs_by-clause-refused t c = λ needs.
     c.if-not-needs_by.ensures.refused
-    (Needs-behind c.args.state.now c.in-Some.next (layer_turn_at c.loop-turn.turn) (c.args.least - 1) (sym c.in-Some.ensures)
+    (Needs-behind c.args.state.now c.in-Some.next (layer_turn_at c.loop-turn.turn) (c.args.least - 1) (sym c.in-Some.ensures.after)
     (Needs-fewer sq1_puzzle c.args.state.now c.args.least (suc (c.args.least - 1)) (omega arith) needs))
 
 pub loop-turn-preserved : goal.loop-turn-preserved
@@ -28,14 +28,14 @@ loop-turn-preserved t c =
     each_turn-more (λ r. NeedsBy (not c.args.twists) r (c.args.least - 1)) c.args.state.now c.args.twists c.loop-turn.turn c.loop-turn.invariant
     (λ r kind e. elim c.if-turn-twists.branch [
       | then-turn-twists+in-Some+else-not-needs_by w ↦
-          subst (λ q. NeedsBy (not c.args.twists) q (c.args.least - 1)) (same_Some w.in-Some.next r (w.in-Some.ensures ∙ e)) w.if-not-needs_by.ensures.needed
-      | then-turn-twists+in_default w ↦ absurd (let same : None ≡ Some r = w.in_default.ensures ∙ e in cc)
+          subst (λ q. NeedsBy (not c.args.twists) q (c.args.least - 1)) (same_Some w.in-Some.next r (w.in-Some.ensures.after ∙ e)) w.if-not-needs_by.ensures.needed
+      | then-turn-twists+in_default w ↦ absurd (let same : None ≡ Some r = w.in_default.ensures.after ∙ e in cc)
       | else-turn-twists w ↦ absurd (beq-differ (c.loop-turn.turn == 65) c.args.twists w.if-turn-twists.false kind)
     ])
 
 pub returns-clause-needed : goal.returns-clause-needed
 returns-clause-needed t c =
     NeedsBy-turns c.args.twists c.args.state.now (c.args.least - 1) c.args.least (omega arith)
-    (Needs-fewer sq1_puzzle c.args.state.now 7 1 (omega arith) (c.needs-2.ensures.0 c.if-not-needs.false))
+    (Needs-fewer sq1_puzzle c.args.state.now 7 1 (omega arith) (c.needs-2.ensures.exact.0 c.if-not-needs.false))
     (each_turn-all (λ r. NeedsBy (not c.args.twists) r (c.args.least - 1)) c.args.state.now c.args.twists
     (λ n r lt kind e. c.loop-turn.invariant n r (omega arith) kind e))

@@ -13,8 +13,8 @@ number-requires c =
     (parts_of c.target.result c.target-2.result c.target-3.result c.target-4.result) parts.ensures.parts c.args.turn c.requires.turn
     c.target.ensures c.target-2.ensures c.target-3.ensures c.target-4.ensures
 
-pub returns : goal.returns
-returns c =
+pub returns-clause-leads : goal.returns-clause-leads
+returns-clause-leads c =
     let parts = c.parts-parts in
     turned_number c.args.self.now c.args.position c.requires.position parts.result
     (parts_of c.target.result c.target-2.result c.target-3.result c.target-4.result) parts.ensures.parts c.args.turn c.requires.turn

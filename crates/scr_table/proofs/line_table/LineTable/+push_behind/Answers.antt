@@ -1,10 +1,8 @@
 use Rattle.std.proofs.Common.{◌≡◌, ◌+◌, ◌-◌, ◌<◌, ◌++◌, [], ◌∷◌, suc, refl, sym, ap, ◌∙◌, subst, take, arith}
 use Rattle.std.specs.List.{flat_map}
 use Rattle.scr_combinatorics.specs.Lists.{numbers_from}
-use Rattle.scr_table.specs.Distances.{Measures}
 use Rattle.scr_table.specs.Words.{goal_words_behind}
 use Rattle.scr_table.proofs.GoalWords.{IsTaking, IsTaking-begin, IsTaking-next, IsTaking-none, goal_words_by, goal_words_by-next, goal_words_by-none, goal_words-found, goal_words-turns}
-use Rattle.scr_table.proofs.SameTables.{StaysBelow-same}
 use Rattle.scr_table.proofs.WordLists.{popped_word, pushed_word}
 use Rattle.scr_table.proofs.line_table.LineTable.+push_behind.Goals.{in-Some, in_default}
 use Rattle.scr_table.proofs.line_table.LineTable.+push_behind.Goals as goal
@@ -14,7 +12,7 @@ returns-then-left-eq0-clause-found g t c =
     let line = g.L.Line.line.coordinate in
     let before = c.args.found.now in
     c.push.ensures ∙ ap (λ w. before ++ w ∷ []) c.deref.ensures.0
-    ∙ goal_words-found line c.args.self.now (subst (Measures line) c.self.view_is c.self.invariant.is.measures) before
+    ∙ goal_words-found line c.args.self.now c.requires.measures before
     c.args.wanted c.args.position c.args.left c.args.word.now.items c.requires.position c.requires.near
     c.if-left-eq0.true c.requires.wanted
 
@@ -56,12 +54,10 @@ loop-turn-preserved g t c =
             ap (λ v. v.items) w.word-is
                 ∙ popped_word w.pop.new.self.items w.push_behind.new.word.items word turn w.pop.ensures.rest (w.push_behind.ensures.word ∙ pushed),
           )
-      | in_default w ↦
-          let below = StaysBelow-same line (g.L.Moves.Coord.coordinate c.self.inside.moves) c.stays_below.ensures c.self.invariant.shown in
-          let measures = subst (Measures line) c.self.view_is c.self.invariant.is.measures in (
-            subst (λ now. IsTaking wanted all now (flat_map by (numbers_from (turn + 1) (line.turns - (turn + 1))))) (sym w.found-is)
-                (IsTaking-none wanted all by turn line.turns c.loop-turn.found lt c.loop-turn.invariant.0
-                (goal_words_by-none line c.args.self.now measures below p word left turn c.requires.position (omega (arith, c.if-left-eq0.false)) w.in_default.ensures.far)),
-            ap (λ v. v.items) w.word-is ∙ c.loop-turn.invariant.1,
-          )
+      | in_default w ↦ (
+        subst (λ now. IsTaking wanted all now (flat_map by (numbers_from (turn + 1) (line.turns - (turn + 1))))) (sym w.found-is)
+            (IsTaking-none wanted all by turn line.turns c.loop-turn.found lt c.loop-turn.invariant.0
+            (goal_words_by-none line c.args.self.now c.requires.measures p word left turn c.requires.position (omega (arith, c.if-left-eq0.false)) w.in_default.ensures.far)),
+        ap (λ v. v.items) w.word-is ∙ c.loop-turn.invariant.1,
+      )
     ]

@@ -13,7 +13,7 @@ returns-in_err-distances-clause-cause g c =
     let fault = c.in_err-distances.field-0.0 in
     rw (p.1, p.2) (subst (λ name. IsCause name line.coordinate line.bound fault) c.reach-name.ensures.name
     (subst (λ bound. IsCause c.reach-name.result.0 line.coordinate bound fault) c.reach-name.ensures.bound
-    (IsCause-same line.coordinate shown c.stays_below.ensures c.in_ok-moves.ensures
+    (IsCause-same line.coordinate shown c.build.ensures.stays_below c.in_ok-moves.ensures
     c.reach-name.result.0 c.reach-name.result.1 fault c.in_err-distances.ensures.cause)))
 
 pub invariant_of-result : goal.invariant_of-result
@@ -26,7 +26,7 @@ invariant_of-result g c =
       is = record {
         name = c.in_ok-distances.ensures.named ∙ c.reach-name.ensures.name;
         bound = c.in_ok-distances.ensures.bounded ∙ c.reach-name.ensures.bound;
-        measures = Measures-same line.coordinate shown c.stays_below.ensures
+        measures = Measures-same line.coordinate shown c.build.ensures.stays_below
             c.in_ok-moves.ensures c.in_ok-distances.distances c.in_ok-distances.ensures.measures;
       };
     }

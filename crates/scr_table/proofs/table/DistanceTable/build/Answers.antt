@@ -20,6 +20,6 @@ returns-clause-measures g c =
     let Is : List ℕ → Type 0 =
     λ entries. Measures coordinate (record { name = c.args.name; bound = c.args.bound; distances = entries }) in
     subst Is (sym (c.in_ok-of-in-None.ensures ∙ c.deref-in-None.ensures.value)) (
-    Measures-known coordinate c.args.name c.args.bound c.in_ok-entries.entries.items (omega (arith, c.requires.bound)) c.in_ok-entries.ensures
+    Measures-known coordinate c.args.name c.args.bound c.in_ok-entries.entries.items c.count-positions.ensures.stays_below (omega (arith, c.requires.bound)) c.in_ok-entries.ensures
     (λ p. omega (arith, c.in-None.ensures.none p, ap (λ xs. get_or xs p 0) c.deref.ensures.value))
     )

@@ -6,9 +6,9 @@ pub loop-lower-preserved : goal.loop-lower-preserved
 loop-lower-preserved g c =
     let step = c.first_lowering-descent.ensures in
     rw c.push.ensures.items
-    (IsDescending-more _ c.stays_below.ensures _ c.requires.measures _ _ _ _ c.loop-lower.invariant _ _ _
+    (IsDescending-more _ _ c.requires.measures _ _ _ _ c.loop-lower.invariant _ _ _
     (omega arith) (omega (arith, step.below, c.requires.measures.positions)) step.lower step.first)
 
 pub returns : goal.returns
 returns g c =
-    IsFirstWord-descended _ c.stays_below.ensures _ c.requires.measures _ _ _ _ c.loop-lower.invariant (omega arith)
+    IsFirstWord-descended _ _ c.requires.measures _ _ _ _ c.loop-lower.invariant (omega arith)

@@ -1,7 +1,0 @@
-use Rattle.scr_coord.proofs.ListViews.{StaysBelow-twists}
-use Rattle.scr_coord.proofs.twists.TwistsCoord.stays_below.Goals as goal
-
-pub returns : goal.returns
-returns g c =
-    let me = c.args.self.now in
-    StaysBelow-twists g.row.N g.row.BASE me.turns.now me.size.0 me.base.0 me.valid.each

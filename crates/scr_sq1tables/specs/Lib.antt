@@ -1,0 +1,9 @@
+pub mod Stages
+pub mod Tables
+pub mod Parts
+pub mod Spaces
+pub mod Letters
+pub mod Codes
+pub mod Placed
+pub mod ShapeWords
+pub mod SearchTables

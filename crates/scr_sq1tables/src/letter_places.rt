@@ -1,0 +1,50 @@
+//! What the letters of the later stages do to the places of a normal state.
+ghost use Rattle.std.specs.Prelude.{◌≡◌, ◌<◌, map};
+ghost use Rattle.scr_combinatorics.specs.Lists.{numbers_from};
+ghost use Rattle.scr_sq1tables.specs.Tables.{units_after};
+ghost use Rattle.scr_sq1tables.specs.Letters.{letter_of};
+ghost use Rattle.scr_sq1tables.specs.Placed.{pieces};
+
+use crate::stage_letters::{StageLetters, letter};
+use scr_sq1::Sq1;
+
+/// Corners, or edges.
+#[derive(Clone, Copy)]
+pub(crate) enum Part {
+    Corners,
+    Edges,
+}
+
+/// For each of the first 32 letters of a kind, the place from which each place gets its piece, which is seen at the
+/// solved state.
+pub(crate) fn letter_places(letters: StageLetters, part: Part) -> [[u8; 8]; 32]
+    ensures { result ≡ map (λ n. pieces part (units_after (letter_of letters) n)) (numbers_from 0 32) }
+{
+    let mut places = [[0; 8]; 32];
+    for number in 0..32 {
+        let state = after_solved(letters, number as u8);
+        places[number] = pieces(&state, part);
+    }
+    places
+}
+
+/// The corners of a state, or its edges, in unit order.
+fn pieces(state: &Sq1, part: Part) -> [u8; 8]
+    ensures { result ≡ pieces part state.now.units }
+{
+    match part {
+        Part::Corners => state.corners(),
+        Part::Edges => state.edges(),
+    }
+}
+
+/// What a letter makes of the solved state, which it doesn't bar.
+#[tactic(auto, unfolding(crate::specs::Tables::units_after))]
+fn after_solved(letters: StageLetters, number: u8) -> Sq1
+    requires { number < 144 }
+    ensures { result.units ≡ units_after (letter_of letters) number }
+{
+    Sq1::solved()
+        .play(&letter(letters, number))
+        .unwrap_or(Sq1::solved())
+}
