@@ -39,6 +39,9 @@ is_current() {
     ! command -v rt > /dev/null || [ "$kit" = "$(kit_line)" ]
 }
 
+# The end of a build, where each part waits for the one before, is more than a newcomer would think.
+last_ones() { [ "$1" -ne 3 ] || echo "; the last three, one after another, take a third of the time"; }
+
 # Proves each part in the copy, builds the program and tries its stored run, as the gate does, and tells how far it is. It has
 # a session of its own, by which all its processes are known. Where the kit keeps what was proved, a later build takes it, and
 # so does the gate.
@@ -58,7 +61,7 @@ prove() {
     seconds=0
     while kill -0 "$proving" 2> /dev/null; do
         done=$(grep -cE '^rt: [a-z0-9_]+ (proved$|is kept: )' "$log")
-        [ "$done" = "$told" ] || say "$done of $parts parts are proved"
+        [ "$done" = "$told" ] || say "$done of $parts parts are proved$(last_ones "$((parts - done))")"
         told=$done
         sleep 1
         seconds=$((seconds + 1))
@@ -150,6 +153,8 @@ build() {
     [ -w "${built%/*}" ] || { say "the program can't be put into ${built%/*}"; exit 1; }
     processors=$(nproc 2> /dev/null || echo 1)
     say "building; every part is proved first, on $processors processors: $takes"
+    # Kits differ in this, and have no option for it: one that gives a part several processors says so in its help.
+    rt help 2>&1 | grep -q ' gets .* jobs on ' || say "this kit gives each part one processor, so the last ones leave others free"
     room=
     proving=
     for signal in HUP INT QUIT PIPE TERM; do
