@@ -39,8 +39,8 @@ is_current() {
     ! command -v rt > /dev/null || [ "$kit" = "$(kit_line)" ]
 }
 
-# The end of a build, where each part waits for the one before, is more than a newcomer would think.
-last_ones() { [ "$1" -ne 3 ] || echo "; the last three, one after another, take a third of the time"; }
+# The end of the build of `scramble`, where each part waits for the one before, is more than a newcomer would think.
+last_ones() { [ "$crate $1" != "scramble 3" ] || echo "; the last three, one after another, take a third of the time"; }
 
 # Proves each part in the copy, builds the program and tries its stored run, as the gate does, and tells how far it is. It has
 # a session of its own, by which all its processes are known. Where the kit keeps what was proved, a later build takes it, and
