@@ -130,19 +130,6 @@ name_in-IsName text name is = at (is_name (trimmed text)) refl is
         subst IsName same (record { test = test; first = ends.0; last = ends.1 })
     at false test is = cc
 
--- the name that a text is, where that is one
-pub name_in-some : (text bytes : List ℕ) → bytes ≡ trimmed text → is_name bytes ≡ true → Some bytes ≡ name_in text
-unfolding name_in
-name_in-some text bytes same test =
-    let named = ap is_name (sym same) ∙ test in
-    rw named (ap Some same)
-
-pub name_in-none : (text bytes : List ℕ) → bytes ≡ trimmed text → is_name bytes ≡ false → None ≡ name_in text
-unfolding name_in
-name_in-none text bytes same test =
-    let unnamed = ap is_name (sym same) ∙ test in
-    rw unnamed refl
-
 -- a name behind a space is read as that name
 pub name_in-name : (name : List ℕ) → IsName name → name_in (32 ∷ name) ≡ Some name
 unfolding name_in

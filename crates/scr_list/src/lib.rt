@@ -19,7 +19,7 @@ mod version;
 pub use event::event_named;
 pub use fault::{ListCause, ListFault};
 pub use grammar::rounds_of;
-pub use name::NAME_ROOM;
+pub use name::{NAME_ROOM, name_of};
 pub use read::read_rounds;
 pub use round::Round;
 pub use version::{ROUND_ROOM, VERSION_1, VERSION_2, Version, version_of};

@@ -1,6 +1,6 @@
 //! The names of rounds.
 
-ghost use Rattle.std.specs.Prelude.{◌≡◌, ◌-◌, ◌<◌, ◌≤◌, length, position, option_map, option_copied, IfSome};
+ghost use Rattle.std.specs.Prelude.{◌≡◌, ◌-◌, ◌<◌, ◌≤◌, None, Some, if◌then◌else◌, length, position, option_map, option_copied, IfSome};
 ghost use Rattle.std.specs.List.{list_all, prefix_len, suffix_len};
 ghost use Rattle.scr_text.specs.Lines.{is_blank};
 ghost use Rattle.scr_list.specs.Names.{is_colon, told_part, name_part, trimmed, is_name_byte, is_name, name_in};
@@ -32,16 +32,21 @@ fn first_colon(line: &[u8]) -> Option<usize>
     line.iter().position(|byte| *byte == b':')
 }
 
-/// The name that a text is: 1 to 40 bytes from the space to the tilde, without the blanks at both ends. `None` exactly
-/// where it is none.
+/// The name that a text is, without the blanks at both ends. `None` exactly where it is none.
 pub(crate) fn name_in(text: &[u8]) -> Option<ArrayString<NAME_ROOM>>
     ensures { option_map (λ name. name.bytes) result ≡ name_in text.now }
 {
-    let bytes = trimmed(text);
-    if !is_name(bytes) {
+    name_of(trimmed(text))
+}
+
+/// A text as a name: 1 to 40 bytes from the space to the tilde. `None` exactly where it is none.
+pub fn name_of(text: &[u8]) -> Option<ArrayString<NAME_ROOM>>
+    ensures { option_map (λ name. name.bytes) result ≡ (if is_name text.now then Some text.now else None) }
+{
+    if !is_name(text) {
         return None;
     }
-    match str::from_utf8(bytes) {
+    match str::from_utf8(text) {
         Ok(text) => {
             let mut name = ArrayString::new();
             name.push_str(text);

@@ -2,9 +2,8 @@
 
 ghost use Rattle.std.specs.Prelude.{◌≡◌, ◌<◌, ◌≤◌, ◌↔◌, true, List, ℕ, IsTrue, IfSome, IsNone};
 ghost use Rattle.scr_notation.specs.Event.{greatest_of};
-ghost use Rattle.std.specs.List.{list_all};
 ghost use Rattle.scr_text.specs.Lines.{has_bytes};
-ghost use Rattle.scr_list.specs.Names.{is_name_byte, IsName};
+ghost use Rattle.scr_list.specs.Names.{IsName};
 ghost use Rattle.scr_round.specs.Round.{own_name_text};
 ghost use Rattle.scr_read.specs.Heads.{HeadOf};
 ghost use Rattle.scr_read.specs.Reading.{IsHeading};
@@ -12,7 +11,7 @@ ghost use Rattle.scr_read.specs.Reading.{IsHeading};
 use crate::lines::behind;
 use crate::piece::Head;
 use arrayvec::ArrayString;
-use scr_list::{NAME_ROOM, Round};
+use scr_list::{NAME_ROOM, Round, name_of};
 use scr_notation::{EVENTS, Event};
 use scr_round::heading;
 
@@ -90,38 +89,9 @@ fn own_name(text: &[u8]) -> Option<ArrayString<NAME_ROOM>>
         return Some(ArrayString::new());
     }
     let name = behind(", ", text)?;
-    if !is_own_name(name) {
+    let own = name_of(name)?;
+    if name[0] == b' ' || name[name.len() - 1] == b' ' {
         return None;
     }
-    match str::from_utf8(name) {
-        Ok(name) => {
-            let mut own = ArrayString::new();
-            own.push_str(name);
-            Some(own)
-        }
-        Err(_) => unreachable!("such bytes are text"),
-    }
-}
-
-/// Whether a text is a name that a list can give.
-fn is_own_name(text: &[u8]) -> bool
-    ensures { IsTrue result ↔ IsName text.now }
-{
-    1 <= text.len()
-        && text.len() <= NAME_ROOM
-        && are_name_bytes(text)
-        && text[0] != b' '
-        && text[text.len() - 1] != b' '
-}
-
-fn are_name_bytes(text: &[u8]) -> bool
-    ensures { result ≡ list_all is_name_byte text.now }
-{
-    text.iter().all(|byte| is_name_byte(*byte))
-}
-
-fn is_name_byte(byte: u8) -> bool
-    ensures { result ≡ is_name_byte byte }
-{
-    32 <= byte && byte <= 126
+    Some(own)
 }

@@ -17,10 +17,8 @@ use Rattle.scr_cube.specs.ListedTurns.{cube_space, after_of}
 use Rattle.scr_combinatorics.specs.Words.{words_of}
 use Rattle.scr_table.proofs.WordLists.{IsWordOf, words_of-each}
 use Rattle.scr_table.specs.Distances.{Distances, Measures}
-use Rattle.scr_search.specs.declared.outlook.Outlook.{Outlook}
 use Rattle.scr_search.specs.Orderly.{after_turn, leads}
-use Rattle.scr_search.specs.TurnSets.{contains_turn}
-use Rattle.scr_search.specs.Outlooks.{turns_within, IsOutlook}
+use Rattle.scr_search.specs.Outlooks.{HasNearer}
 use Rattle.scr_search.specs.Views.{Sees, View, Views}
 use Rattle.scr_search.proofs.Leads.{leads-parts, after_of-place, play-places, step_of}
 use Rattle.scr_search.proofs.SearchSteps.{LeavesWays}
@@ -48,10 +46,10 @@ module _ {v : Views} {view : View} {table : Distances} (s : Sees v view) (is : M
       (record { end = to.0; played = played; goal = s.ends to.0 seen to.2 }) in
       omega (arith, (exact c (view.number c) h refl).least word.places viewed, ap (λ k. get_or table.distances k 0) at, word.size)
 
-  -- A turn with which a word leads there is left by an outlook of the position.
-  pub LeavesWays-table : {c : CubeState} {p left bits : ℕ} {o : Outlook} → length v.turns ≤ 18 → v.IsSeen c → p ≡ view.number c → 0 < left
-      → IsOutlook view.coordinate table.distances p o → bits ≡ turns_within o left → LeavesWays v c left bits
-  LeavesWays-table {c} {p} {left} few h at some outlook turns = λ place w lt there way.
+  -- A turn with which a word leads there is in a set of those that lead nearer.
+  pub LeavesWays-table : {c : CubeState} {p left bits : ℕ} → length v.turns ≤ 18 → v.IsSeen c → p ≡ view.number c → 0 < left
+      → HasNearer view.coordinate table.distances p left bits → LeavesWays v c left bits
+  LeavesWays-table {c} {p} {left} few h at some nearer = λ place w lt there way.
       let step = step_of v.ends c (get_or v.turns place 0) w way in
       let d = step.there in
       let q : ℕ = view.number d in
@@ -62,5 +60,4 @@ module _ {v : Views} {view : View} {table : Distances} (s : Sees v view) (is : M
       ap (λ k. moved view.coordinate k place) at ∙ s.along.turned c place h ∙ ap (option_map view.number) to in
       let here = IsDistance-step (moved view.coordinate) (IsGoal view.coordinate) p q place (get_or table.distances p 0)
       (get_or table.distances q 0) moves (exact c p h at) (exact d q seen refl) in
-      subst (λ b. contains_turn b place ≡ true) (sym turns)
-      (outlook.kept place q left (omega (arith, lt, few)) moves (omega (arith, here, near, some)) (omega (arith, near, some)))
+      nearer.kept place q (omega (arith, lt, few)) moves (omega (arith, here, near, some)) (omega (arith, near, some))

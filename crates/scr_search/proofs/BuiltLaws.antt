@@ -54,9 +54,11 @@ AreOutlooks-same : (c shown : Coordinate) → StaysBelow c → ShowsSame c shown
     → (distances : List ℕ) (all : List Outlook) → AreOutlooks shown distances all → AreOutlooks c distances all
 AreOutlooks-same c shown below same distances all o = record {
   each = λ p outlook at there. record {
-    kept = λ t q left few to here lt.
-        (o.each p outlook (subst (λ n. p < n) (sym same.count) at) there).kept t q left few
-        ((Follows-same c shown below same).turned p t at ∙ ap (option_map (λ n. n)) to) here lt;
+    leaves = λ left. record {
+      kept = λ t q few to here lt.
+          ((o.each p outlook (subst (λ n. p < n) (sym same.count) at) there).leaves left).kept t q few
+          ((Follows-same c shown below same).turned p t at ∙ ap (option_map (λ n. n)) to) here lt;
+    };
   };
 }
 

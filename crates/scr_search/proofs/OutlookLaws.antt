@@ -24,20 +24,22 @@ pub IsOutlook-of : (c : Coordinate) (distances : List ℕ) (p near level : ℕ) 
     → IsOutlook c distances p o
 unfolding turns_within
 IsOutlook-of c distances p near level o few_near few_level is_near is_level nearer no_farther = record {
-  kept = λ t q left few to here lt.
-      let far : ℕ = o.nearer / 2 ^ 18 in
-      let d : far ≡ get_or distances p 0 = omega (arith, is_near, few_near) in
-      let n : o.nearer % 2 ^ 18 ≡ near = omega (arith, is_near, few_near) in
-      let m : o.no_farther % 2 ^ 18 ≡ level = omega (arith, is_level, few_level) in
-      let P : ℕ → Type 0 = λ bits. contains_turn bits t ≡ true in
-      let behind : ℕ = cond (left == far + 1) (o.no_farther % 2 ^ 18) (2 ^ 18 - 1) in
-      taken P (nat_lt left far) 0 (cond (left == far) (o.nearer % 2 ^ 18) behind)
-      (λ e. absurd (omega (arith, d, ltb-true left far e, here)))
-      (λ _. taken P (left == far) (o.nearer % 2 ^ 18) behind
-      (λ e. subst P (sym n) (nearer t q few to (omega (arith, d, eqb-true left far e, lt))))
-      (λ _. taken P (left == far + 1) (o.no_farther % 2 ^ 18) (2 ^ 18 - 1)
-      (λ e. subst P (sym m) (no_farther t q few to (omega (arith, d, eqb-true left (far + 1) e, lt))))
-      (λ _. has_turn-all t few)));
+  leaves = λ left. record {
+    kept = λ t q few to here lt.
+        let far : ℕ = o.nearer / 2 ^ 18 in
+        let d : far ≡ get_or distances p 0 = omega (arith, is_near, few_near) in
+        let n : o.nearer % 2 ^ 18 ≡ near = omega (arith, is_near, few_near) in
+        let m : o.no_farther % 2 ^ 18 ≡ level = omega (arith, is_level, few_level) in
+        let P : ℕ → Type 0 = λ bits. contains_turn bits t ≡ true in
+        let behind : ℕ = cond (left == far + 1) (o.no_farther % 2 ^ 18) (2 ^ 18 - 1) in
+        taken P (nat_lt left far) 0 (cond (left == far) (o.nearer % 2 ^ 18) behind)
+        (λ e. absurd (omega (arith, d, ltb-true left far e, here)))
+        (λ _. taken P (left == far) (o.nearer % 2 ^ 18) behind
+        (λ e. subst P (sym n) (nearer t q few to (omega (arith, d, eqb-true left far e, lt))))
+        (λ _. taken P (left == far + 1) (o.no_farther % 2 ^ 18) (2 ^ 18 - 1)
+        (λ e. subst P (sym m) (no_farther t q few to (omega (arith, d, eqb-true left (far + 1) e, lt))))
+        (λ _. has_turn-all t few)));
+  };
 }
 
 pub IsOutlook-found : (c : Coordinate) (distances : List ℕ) (p : ℕ) (found : Found) (o : Outlook)

@@ -15,11 +15,15 @@ turns_within o left =
     else (if left == o.nearer / 2 ^ 18 then o.nearer % 2 ^ 18
     else (if left == o.nearer / 2 ^ 18 + 1 then o.no_farther % 2 ^ 18 else 2 ^ 18 - 1))
 
--- Where the goal is no farther than as many turns as may still be made, an outlook leaves each of the 18 turns that
--- leads from its position to where the table has fewer.
+-- Where the goal is no farther from a position than so many turns, a set has each of the 18 turns that leads from there
+-- to where the table has fewer.
+pub record HasNearer (c : Coordinate) (distances : List ℕ) (p left bits : ℕ) : Type 0 where
+  pub kept : (t q : ℕ) → t < 18 → moved c p t ≡ Some q → slice_index distances p ≤ left
+      → slice_index distances q < left → IsTrue (contains_turn bits t)
+
+-- An outlook of a position leaves such a set, whatever number of turns may still be made.
 pub record IsOutlook (c : Coordinate) (distances : List ℕ) (p : ℕ) (o : Outlook) : Type 0 where
-  pub kept : (t q left : ℕ) → t < 18 → moved c p t ≡ Some q → slice_index distances p ≤ left
-      → slice_index distances q < left → IsTrue (contains_turn (turns_within o left) t)
+  pub leaves : (left : ℕ) → HasNearer c distances p left (turns_within o left)
 
 -- Of the turns below a number those that lead nearer than the position is are found, and those that lead no farther.
 pub record AreFound (c : Coordinate) (distances : List ℕ) (p turn : ℕ) (found : Found) : Type 0 where

@@ -1,7 +1,7 @@
 //! The search for a part of the solution of a 3x3x3, whatever the part.
 //!
 //! A [`Part`] says which turns there are and which of them may be the last, gives three coordinates, each of which has
-//! a number of a cube, and says what a whole word gives. [`search_within`] goes through the words depth first by rising
+//! a number of a cube, and says what a whole word gives. [`Search::within`] goes through the words depth first by rising
 //! length, and leaves out turns: the theorem is that it finds what the list of all words has, and that each word that
 //! is looked for counts one try.
 //!
@@ -30,7 +30,7 @@ pub use outlook::Outlook;
 pub use part::Part;
 pub use position::{BLOCK, Extent, PartPosition};
 pub use pruning::PruningTable;
-pub use search::search_within;
+pub use search::Search;
 pub use search_tables::SearchTables;
 pub use turn_set::TurnSet;
 pub use word::Word;

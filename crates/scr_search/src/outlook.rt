@@ -24,19 +24,6 @@ pub struct Outlook {
 }
 
 impl Outlook {
-    /// What is known of a position by its distance alone, at most `GREATEST_BOUND`: any turn may lead nearer.
-    #[inline]
-    pub(crate) fn at_distance(distance: u32) -> Outlook
-        requires { distance ≤ GREATEST_BOUND }
-        ensures nearer { result.nearer ≡ (2 ^ 18 - 1) + distance * 2 ^ 18 }
-        ensures no_farther { result.no_farther ≡ 2 ^ 18 - 1 }
-    {
-        Outlook {
-            nearer: TURNS + (distance << 18),
-            no_farther: TURNS,
-        }
-    }
-
     /// The turns of which one may be the next where `left` turns may still be made.
     #[inline]
     #[tactic(auto, unfolding(crate::specs::Outlooks::turns_within))]

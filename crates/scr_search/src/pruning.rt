@@ -5,10 +5,11 @@ ghost use Rattle.scr_positions.specs.Moves.{moves_coordinate};
 ghost use Rattle.scr_positions.specs.SearchSpaces.{ShowsSame};
 ghost use Rattle.scr_table.specs.Causes.{IsCause};
 ghost use Rattle.scr_table.specs.Lines.{TableLine};
-ghost use Rattle.scr_search.specs.Outlooks.{IsOutlook, IsPruningTable};
+ghost use Rattle.scr_search.specs.Outlooks.{HasNearer, IsPruningTable};
 ghost use Rattle.scr_search.specs.Views.{beside, index_beside};
 
 use crate::outlook::Outlook;
+use crate::turn_set::TurnSet;
 use scr_positions::{Coord, MoveTable, Product};
 use scr_table::{BuildFault, DistanceTable, GREATEST_BOUND, TableName};
 use std::alloc::Global;
@@ -58,16 +59,19 @@ impl PruningTable {
         self.distances.distance(position)
     }
 
-    /// The outlook of a position, by its distance alone where none is found.
+    /// The turns of which one may be the next from a position where `left` turns may still be made: by its outlook, and
+    /// where none is found by its distance alone.
     #[inline]
-    pub fn outlook(&self, position: u32) -> Outlook
+    pub fn turns_within(&self, position: u32, left: u32) -> TurnSet
         requires { position < length self.now.distances.distances }
-        ensures { (line : TableLine) → IsPruningTable line self.now
-            → IsOutlook line.coordinate self.now.distances.distances position result }
+        ensures nearer { (line : TableLine) → IsPruningTable line self.now
+            → HasNearer line.coordinate self.now.distances.distances position left result.bits }
+        ensures few { result.bits < 2 ^ 18 }
     {
         match self.outlooks.get(position as usize) {
-            Some(outlook) => *outlook,
-            None => Outlook::at_distance(self.distances.distance(position)),
+            Some(outlook) => outlook.turns_within(left),
+            None if left < self.distances.distance(position) => TurnSet::NONE,
+            None => TurnSet::ALL,
         }
     }
 }

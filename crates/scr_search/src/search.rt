@@ -11,86 +11,80 @@ use crate::search_tables::SearchTables;
 use crate::word::Word;
 use scr_cube::Cube;
 
-/// Makes of a word what the first gives of the whole words of a part that go on from it. Each of them counts one try,
-/// and none is looked at once `tries` are made. If none gives anything, the word stays.
-pub fn search_within<P: Part>(
-    tables: &SearchTables<P>,
-    rest: &P::Rest,
-    cube: &Cube,
-    word: &mut Word,
-    at: PartPosition,
-    tries: &mut u32,
-) -> bool
-    requires at { IsAt P.views cube.now word.old at }
-    requires last { IsTrue (ends_with P.views.is_last word.old) }
-    requires few { length word.old ≤ P.views.before }
-    ensures { IsSearched (P.gives cube.now)
-        (filter (is_whole P.views cube.now) (map (λ v. word.old ++ v) (words_within P.views.turns P.extent.most)))
-        tries.old word.old result word.new tries.new }
-{
-    let most = P::extent().most;
-    for left in tables.least_from(at)..most + 1 {
-        if search_behind(tables, rest, cube, word, at, left, tries) {
-            return true;
-        }
-    }
-    false
+/// A search for a part of a solution of a cube: what stays the same while it goes through the words.
+#[derive(Clone, Copy)]
+pub struct Search<'a, P: Part> {
+    /// Where turns lead, the pruning tables, and the near set.
+    pub tables: &'a SearchTables<P>,
+    /// What whole words are handed to.
+    pub rest: &'a P::Rest,
+    /// The cube.
+    pub cube: &'a Cube,
 }
 
-/// Does so with the words that go on from it by `left` turns.
-fn search_behind<P: Part>(
-    tables: &SearchTables<P>,
-    rest: &P::Rest,
-    cube: &Cube,
-    word: &mut Word,
-    at: PartPosition,
-    left: u32,
-    tries: &mut u32,
-) -> bool
-    requires views { AreViews P.views P.extent }
-    requires at { IsAt P.views cube.now word.old at }
-    requires last { left ≡ 0 → IsTrue (ends_with P.views.is_last word.old) }
-    requires few { length word.old + left ≤ P.views.before + P.extent.most }
-    ensures { IsSearched (P.gives cube.now) (words_behind P.views.turns (is_whole P.views cube.now) word.old left)
-        tries.old word.old result word.new tries.new }
-{
-    if *tries == 0 {
-        return false;
-    }
-    if left == 0 {
-        return at_end::<P>(rest, cube, word, at, tries);
-    }
-    let mut turns = tables.turns_behind(word, at, left);
-    while let Some(place) = turns.pop() {
-        let next = tables.after(at, place);
-        word.push(SearchTables::<P>::turn(place));
-        if search_behind(tables, rest, cube, word, next, left - 1, tries) {
-            return true;
+impl<P: Part> Search<'_, P> {
+    /// Makes of a word what the first gives of the whole words of the part that go on from it. Each of them counts one
+    /// try, and none is looked at once `tries` are made. If none gives anything, the word stays.
+    pub fn within(&self, word: &mut Word, at: PartPosition, tries: &mut u32) -> bool
+        requires at { IsAt P.views self.now.cube.now word.old at }
+        requires last { IsTrue (ends_with P.views.is_last word.old) }
+        requires few { length word.old ≤ P.views.before }
+        ensures { IsSearched (P.gives self.now.cube.now) (filter (is_whole P.views self.now.cube.now)
+            (map (λ v. word.old ++ v) (words_within P.views.turns P.extent.most)))
+            tries.old word.old result word.new tries.new }
+    {
+        let most = P::extent().most;
+        for left in self.tables.least_from(at)..most + 1 {
+            if self.behind(word, at, left, tries) {
+                return true;
+            }
         }
-        word.pop();
+        false
     }
-    false
-}
 
-/// Does so with the word itself: if it leads to an end of the part, this is a try.
-#[inline]
-fn at_end<P: Part>(
-    rest: &P::Rest,
-    cube: &Cube,
-    word: &mut Word,
-    at: PartPosition,
-    tries: &mut u32,
-) -> bool
-    requires at { IsAt P.views cube.now word.old at }
-    requires last { IsTrue (ends_with P.views.is_last word.old) }
-    requires few { length word.old ≤ P.views.before + P.extent.most }
-    requires tries { 0 < tries.old }
-    ensures { IsSearched (P.gives cube.now) (words_behind P.views.turns (is_whole P.views cube.now) word.old 0)
-        tries.old word.old result word.new tries.new }
-{
-    if SearchTables::<P>::number_of(at) != P::extent().end {
-        return false;
+    /// Does so with the words that go on from it by `left` turns.
+    fn behind(&self, word: &mut Word, at: PartPosition, left: u32, tries: &mut u32) -> bool
+        requires views { AreViews P.views P.extent }
+        requires at { IsAt P.views self.now.cube.now word.old at }
+        requires last { left ≡ 0 → IsTrue (ends_with P.views.is_last word.old) }
+        requires few { length word.old + left ≤ P.views.before + P.extent.most }
+        ensures { IsSearched (P.gives self.now.cube.now)
+            (words_behind P.views.turns (is_whole P.views self.now.cube.now) word.old left)
+            tries.old word.old result word.new tries.new }
+    {
+        if *tries == 0 {
+            return false;
+        }
+        if left == 0 {
+            return self.at_end(word, at, tries);
+        }
+        let mut turns = self.tables.turns_behind(word, at, left);
+        while let Some(place) = turns.pop() {
+            let next = self.tables.after(at, place);
+            word.push(SearchTables::<P>::turn(place));
+            if self.behind(word, next, left - 1, tries) {
+                return true;
+            }
+            word.pop();
+        }
+        false
     }
-    *tries -= 1;
-    P::give(rest, cube, word)
+
+    /// Does so with the word itself: if it leads to an end of the part, this is a try.
+    #[inline]
+    fn at_end(&self, word: &mut Word, at: PartPosition, tries: &mut u32) -> bool
+        requires at { IsAt P.views self.now.cube.now word.old at }
+        requires last { IsTrue (ends_with P.views.is_last word.old) }
+        requires few { length word.old ≤ P.views.before + P.extent.most }
+        requires tries { 0 < tries.old }
+        ensures { IsSearched (P.gives self.now.cube.now)
+            (words_behind P.views.turns (is_whole P.views self.now.cube.now) word.old 0)
+            tries.old word.old result word.new tries.new }
+    {
+        if SearchTables::<P>::number_of(at) != P::extent().end {
+            return false;
+        }
+        *tries -= 1;
+        P::give(self.rest, self.cube, word)
+    }
 }

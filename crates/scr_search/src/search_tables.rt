@@ -188,14 +188,8 @@ impl<P: Part> SearchTables<P> {
         ensures few { result.bits < 2 ^ 18 }
     {
         let extent = P::extent();
-        let by_one = self
-            .one_slice
-            .outlook(Self::one_index(at))
-            .turns_within(left);
-        let by_other = self
-            .other_slice
-            .outlook(Self::other_index(at))
-            .turns_within(left);
+        let by_one = self.one_slice.turns_within(Self::one_index(at), left);
+        let by_other = self.other_slice.turns_within(Self::other_index(at), left);
         let turns = behind(word, &extent.behind).and(by_one).and(by_other);
         if left == 1 {
             turns.and(extent.last)

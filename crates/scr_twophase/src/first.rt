@@ -13,7 +13,7 @@ use scr_cube::Cube;
 use scr_outside::NoMemory;
 use scr_positions::MoveTable;
 use scr_rank::{Choose, TwistRank};
-use scr_search::{BLOCK, Extent, Part, PartPosition, SearchTables, TurnSet, Word, search_within};
+use scr_search::{BLOCK, Extent, Part, PartPosition, Search, SearchTables, TurnSet, Word};
 use scr_stages::{ALL_TURNS, MIDDLE_EDGES, corners_turned, edges_turned};
 use scr_table::TableName;
 use std::alloc::Global;
@@ -81,7 +81,12 @@ impl Part for FirstPart {
 
     fn give(rest: &SearchTables<SecondPart>, cube: &Cube, word: &mut Word) -> bool {
         let at = position_behind(cube, word.turns());
-        search_within(rest, &(), cube, word, at, &mut 1)
+        let second = Search {
+            tables: rest,
+            rest: &(),
+            cube,
+        };
+        second.within(word, at, &mut 1)
     }
 
     ghost short = { lit≤ tt };

@@ -13,7 +13,7 @@ use crate::first::first_position;
 use crate::tables::PruneTables;
 use scr_cube::Cube;
 use scr_notation::{Event, Scramble, inverse, numbered_scramble};
-use scr_search::{Word, search_within};
+use scr_search::{Search, Word};
 use scr_stages::{StageTables, scramble_by_stages};
 
 /// The two parts of a cube, joined: the first of its first parts that has a second part, and that. At most `tries`
@@ -28,14 +28,12 @@ pub fn two_parts(tables: &PruneTables, cube: &Cube, tries: u32) -> Option<Scramb
     let at = first_position(cube);
     let mut word = Word::empty();
     let mut left = tries;
-    if search_within(
-        &tables.first,
-        &tables.second,
+    let parts = Search {
+        tables: &tables.first,
+        rest: &tables.second,
         cube,
-        &mut word,
-        at,
-        &mut left,
-    ) {
+    };
+    if parts.within(&mut word, at, &mut left) {
         Some(numbered_scramble(Event::C333, word.turns()))
     } else {
         None

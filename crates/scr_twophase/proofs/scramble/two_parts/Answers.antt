@@ -23,8 +23,8 @@ begins : (c : CubeState) (at : PartPosition) → Shows first_views c at → IsAt
 unfolding is_orderly
 begins c at shows = record { there = c; played = play-empty after_turn c; shows = shows; orderly = refl }
 
-pub search_within-requires : goal.search_within-requires
-search_within-requires c =
+pub within-requires : goal.within-requires
+within-requires c =
     let none = sym c.empty-word.ensures in
     record {
       at = subst (λ w. IsAt first_views c.args.cube.now w c.first_position-at.result) none (begins c.args.cube.now c.first_position-at.result c.first_position-at.ensures);
@@ -39,15 +39,15 @@ numbered_scramble-requires c = record {
 }
 
 -- what is found
-found : (c : goal.After-numbered_scramble) → two_parts c.args.cube.now c.args.tries ≡ Some c.search_within.new.word
+found : (c : goal.After-numbered_scramble) → two_parts c.args.cube.now c.args.tries ≡ Some c.within.new.word
 found c =
-    two_parts-searched c.args.cube.now c.empty-word.result c.search_within.new.word c.args.tries c.search_within.new.tries true
-    c.empty-word.ensures c.if-search_within.ensures
+    two_parts-searched c.args.cube.now c.empty-word.result c.within.new.word c.args.tries c.within.new.tries true
+    c.empty-word.ensures c.if-within.ensures
 
-pub returns-then-search_within : goal.returns-then-search_within
-returns-then-search_within c =
+pub returns-then-within : goal.returns-then-within
+returns-then-within c =
     let cube = c.args.cube.now in
-    let word = c.search_within.new.word in
+    let word = c.within.new.word in
     let spelled = ap (λ s. s.turns) c.numbered_scramble.ensures ∙ ap (λ f. map f c.turns.result.now) turns_333 ∙ ap (map face_turn_at) c.turns.ensures.turns in
     record {
       event = ap (λ s. s.event) c.numbered_scramble.ensures;
@@ -57,11 +57,11 @@ returns-then-search_within c =
       valid = c.first_position-at.ensures.seen;
     }
 
-pub returns-else-search_within-clause-parts : goal.returns-else-search_within-clause-parts
-returns-else-search_within-clause-parts c =
+pub returns-else-within-clause-parts : goal.returns-else-within-clause-parts
+returns-else-within-clause-parts c =
     ap (option_map (map face_turn_at))
-    (sym (two_parts-searched c.args.cube.now c.empty-word.result c.search_within.new.word c.args.tries c.search_within.new.tries false
-    c.empty-word.ensures c.if-search_within.ensures))
+    (sym (two_parts-searched c.args.cube.now c.empty-word.result c.within.new.word c.args.tries c.within.new.tries false
+    c.empty-word.ensures c.if-within.ensures))
 
-pub returns-else-search_within-clause-valid : goal.returns-else-search_within-clause-valid
-returns-else-search_within-clause-valid c = c.first_position-at.ensures.seen
+pub returns-else-within-clause-valid : goal.returns-else-within-clause-valid
+returns-else-within-clause-valid c = c.first_position-at.ensures.seen

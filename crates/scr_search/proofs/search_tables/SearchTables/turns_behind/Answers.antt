@@ -41,10 +41,10 @@ keeps g c cube h =
     let self = c.args.self.now in
     let one : LeavesWays v h.there c.args.left c.turns_within-by_one.result.bits =
     LeavesWays-table (Sees-beside e.middle_first are.one are.middle) self.one_is.distances.measures are.few.0
-    h.shows.seen (c.one_index.ensures.shown h.there h.shows) c.requires.some (c.outlook.ensures (one_line v e) self.one_is) c.turns_within-by_one.ensures.turns in
+    h.shows.seen (c.one_index.ensures.shown h.there h.shows) c.requires.some (c.turns_within-by_one.ensures.nearer (one_line v e) self.one_is) in
     let other : LeavesWays v h.there c.args.left c.turns_within-by_other.result.bits =
     LeavesWays-table (Sees-beside e.middle_first are.other are.middle) self.other_is.distances.measures are.few.0
-    h.shows.seen (c.other_index.ensures.shown h.there h.shows) c.requires.some (c.outlook-2.ensures (other_line v e) self.other_is) c.turns_within-by_other.ensures.turns in
+    h.shows.seen (c.other_index.ensures.shown h.there h.shows) c.requires.some (c.turns_within-by_other.ensures.nearer (other_line v e) self.other_is) in
     let may : KeepsWays v cube c.args.word.now c.args.left c.behind.result.bits =
     KeepsWays-behind h (c.behind.ensures.small (2 ^ length v.turns) are.behind.0) (c.behind.ensures.turns v.turns are.behind.1) in
     let both : KeepsWays v cube c.args.word.now c.args.left c.and.result.bits =

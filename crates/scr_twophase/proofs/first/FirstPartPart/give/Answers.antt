@@ -18,8 +18,8 @@ position_behind-at-requires c =
       );
     }
 
-pub search_within-requires : goal.search_within-requires
-search_within-requires c =
+pub within-requires : goal.within-requires
+within-requires c =
     let h = c.requires.whole in
     let word = c.args.word.now in
     record {
@@ -35,6 +35,6 @@ search_within-requires c =
 
 pub returns : goal.returns
 returns c = record {
-  given = joined-searched c.args.cube.now c.args.word.now c.search_within.new.word c.search_within.result c.search_within.new.tries c.search_within.ensures;
-  same = c.search_within.ensures.same;
+  given = joined-searched c.args.cube.now c.args.word.now c.within.new.word c.within.result c.within.new.tries c.within.ensures;
+  same = c.within.ensures.same;
 }

@@ -11,9 +11,9 @@ use Rattle.scr_search.specs.Views.{is_whole}
 use Rattle.scr_search.proofs.Orderly.{last-push}
 use Rattle.scr_search.proofs.Outcomes.{IsLeft-all, IsLeft-found, IsLeft-none, IsLeft-passed, IsSearched-spent}
 use Rattle.scr_search.proofs.SearchSteps.{IsAt-turned, words_kept}
-use Rattle.scr_search.proofs.search.+search_behind.Given.{Over}
-use Rattle.scr_search.proofs.search.+search_behind.Goals.{After-push}
-use Rattle.scr_search.proofs.search.+search_behind.Goals as goal
+use Rattle.scr_search.proofs.search.Search.+behind.Given.{Over}
+use Rattle.scr_search.proofs.search.Search.+behind.Goals.{After-push}
+use Rattle.scr_search.proofs.search.Search.+behind.Goals as goal
 
 pub returns-then-tries-eq0 : goal.returns-then-tries-eq0
 returns-then-tries-eq0 g t c = IsSearched-spent c.if-tries-eq0.true
@@ -29,20 +29,20 @@ at_end-requires g t c = record {
 pub returns-then-left-eq0 : goal.returns-then-left-eq0
 returns-then-left-eq0 g t c =
     let v = g.P.Part.views in
-    let cube = c.args.cube.now in
+    let cube = c.args.self.now.cube.now in
     subst (λ n. IsSearched (g.P.Part.gives cube) (words_behind v.turns (is_whole v cube) c.args.word.now n) c.args.tries.now c.args.word.now c.at_end.result
     c.at_end.new.word c.at_end.new.tries) (sym c.if-left-eq0.true) c.at_end.ensures
 
 pub turns_behind-turns-requires : goal.turns_behind-turns-requires
-turns_behind-turns-requires g t c = record { at = (c.args.cube.now, c.requires.at); some = omega (arith, c.if-left-eq0.false) }
+turns_behind-turns-requires g t c = record { at = (c.args.self.now.cube.now, c.requires.at); some = omega (arith, c.if-left-eq0.false) }
 
 pub loop-place-init : goal.loop-place-init
 loop-place-init g t c =
     let turns = c.turns_behind-turns.ensures in
-    let keeps = turns.kept c.args.cube.now c.requires.at in
+    let keeps = turns.kept c.args.self.now.cube.now c.requires.at in
     record {
       same = refl;
-      words = IsLeft-all (words_kept g.P.Part.views c.args.cube.now c.args.word.now c.args.left c.turns_behind-turns.result.bits (omega (arith, c.if-left-eq0.false)) turns.few keeps);
+      words = IsLeft-all (words_kept g.P.Part.views c.args.self.now.cube.now c.args.word.now c.args.left c.turns_behind-turns.result.bits (omega (arith, c.if-left-eq0.false)) turns.few keeps);
       follow = keeps.follow;
       last = turns.last;
       few = turns.few;
@@ -66,15 +66,15 @@ pushed g t c =
     pushed_word c.push.new.self c.loop-place.word c.args.word.now c.turn.result (get_or g.P.Part.views.turns c.in-Some.place 0) c.push.ensures
     c.loop-place.invariant.same c.turn.ensures.turn
 
-pub search_behind-requires : goal.search_behind-requires
-search_behind-requires g t c = λ κs lives.
+pub behind-requires : goal.behind-requires
+behind-requires g t c = λ κs lives.
     let v = g.P.Part.views in
-    let cube = c.args.cube.now in
+    let cube = c.args.self.now.cube.now in
     let word = c.args.word.now in
     let place = c.in-Some.place in
     let turn : ℕ = get_or v.turns place 0 in
     let may = c.loop-place.invariant.follow place c.in-Some.ensures.taken in
-    let by = pushed g t (goal.at.search_behind-requires g t c).After-push in
+    let by = pushed g t (goal.at.behind-requires g t c).After-push in
     let below : turn < 18 = omega (arith, c.turn.ensures.turn, c.turn.ensures.below) in
     let at = IsAt-turned v cube word c.args.at c.after-next.result place below c.requires.at may c.after-next.ensures in (
       omega (arith, c.decreases, c.if-left-eq0.false),
@@ -98,12 +98,12 @@ search_behind-requires g t c = λ κs lives.
       ),
     )
 
-pub returns-then-search_behind : goal.returns-then-search_behind
-returns-then-search_behind g t c =
+pub returns-then-behind : goal.returns-then-behind
+returns-then-behind g t c =
     let v = g.P.Part.views in
-    let by = pushed g t (goal.at.returns-then-search_behind g t c).After-push in
-    IsLeft-found c.in-Some.ensures.first (ap (λ w. words_behind v.turns (is_whole v c.args.cube.now) w (c.args.left - 1)) by)
-    c.loop-place.invariant.words c.if-search_behind.ensures
+    let by = pushed g t (goal.at.returns-then-behind g t c).After-push in
+    IsLeft-found c.in-Some.ensures.first (ap (λ w. words_behind v.turns (is_whole v c.args.self.now.cube.now) w (c.args.left - 1)) by)
+    c.loop-place.invariant.words c.if-behind.ensures
 
 pub loop-place-preserved : goal.loop-place-preserved
 loop-place-preserved g t c =
@@ -112,10 +112,10 @@ loop-place-preserved g t c =
     let among = λ (place : ℕ) (is : contains_turn c.pop.new.self.bits place ≡ true).
     (and_parts (contains_turn c.loop-place.turns.bits place) (not (place == c.in-Some.place)) (sym (c.in-Some.ensures.others place) ∙ is)).0 in
     record {
-      same = popped_word c.pop-in-Some.new.self c.search_behind.new.word c.args.word.now (get_or v.turns c.in-Some.place 0) c.pop-in-Some.ensures
-          (c.if-search_behind.ensures.same refl ∙ by);
-      words = IsLeft-passed c.in-Some.ensures.first (ap (λ w. words_behind v.turns (is_whole v c.args.cube.now) w (c.args.left - 1)) by)
-          c.loop-place.invariant.words c.if-search_behind.ensures;
+      same = popped_word c.pop-in-Some.new.self c.behind.new.word c.args.word.now (get_or v.turns c.in-Some.place 0) c.pop-in-Some.ensures
+          (c.if-behind.ensures.same refl ∙ by);
+      words = IsLeft-passed c.in-Some.ensures.first (ap (λ w. words_behind v.turns (is_whole v c.args.self.now.cube.now) w (c.args.left - 1)) by)
+          c.loop-place.invariant.words c.if-behind.ensures;
       follow = λ place is. c.loop-place.invariant.follow place (among place is);
       last = λ one place is. c.loop-place.invariant.last one place (among place is);
       few = c.in-Some.ensures.few;

@@ -5,10 +5,10 @@ use Rattle.scr_search.specs.TurnSets.{contains_turn, turns_in}
 use Rattle.scr_search.specs.Views.{is_whole}
 use Rattle.scr_search.proofs.Outcomes.{IsLeft}
 use Rattle.scr_search.proofs.SearchSteps.{words_by}
-use Rattle.scr_search.proofs.search.+search_behind.Given as goal
+use Rattle.scr_search.proofs.search.Search.+behind.Given as goal
 
-abbrev pub decreases-search_behind : goal.decreases-search_behind
-decreases-search_behind g l = l.left
+abbrev pub decreases-behind : goal.decreases-behind
+decreases-behind g l = l.left
 
 abbrev pub decreases-loop-place : goal.decreases-loop-place
 decreases-loop-place g l = length (turns_in l.turns.bits)
@@ -18,7 +18,7 @@ invariant-loop-place g l =
     let v = g.P.Part.views in
     let word = l.initial.word in record {
       same : l.word ≡ word;
-      words : IsLeft (g.P.Part.gives l.cube) (words_behind v.turns (is_whole v l.cube) word l.left) l.initial.tries (words_by v l.cube word (l.left - 1)) (turns_in l.turns.bits) l.tries;
+      words : IsLeft (g.P.Part.gives l.self.cube.now) (words_behind v.turns (is_whole v l.self.cube.now) word l.left) l.initial.tries (words_by v l.self.cube.now word (l.left - 1)) (turns_in l.turns.bits) l.tries;
       follow : (place : ℕ) → contains_turn l.turns.bits place ≡ true → MayFollow v word place;
       last : l.left ≡ 1 → (place : ℕ) → contains_turn l.turns.bits place ≡ true → v.is_last (get_or v.turns place 0) ≡ true;
       few : l.turns.bits < 2 ^ 18;

@@ -1,9 +1,9 @@
 use Rattle.std.proofs.Common.{◌≡◌, false, true, refl, sym, ◌∙◌, eq-eqb, ne_eqb}
 use Rattle.scr_search.proofs.Outcomes.{IsSearched-none, IsSearched-one}
 use Rattle.scr_search.proofs.SearchSteps.{whole-at}
-use Rattle.scr_search.proofs.search.at_end.Given.{Over}
-use Rattle.scr_search.proofs.search.at_end.Goals.{Else-number_of-extent}
-use Rattle.scr_search.proofs.search.at_end.Goals as goal
+use Rattle.scr_search.proofs.search.Search.at_end.Given.{Over}
+use Rattle.scr_search.proofs.search.Search.at_end.Goals.{Else-number_of-extent}
+use Rattle.scr_search.proofs.search.Search.at_end.Goals as goal
 
 pub returns-then-number_of-extent : goal.returns-then-number_of-extent
 returns-then-number_of-extent g c =
