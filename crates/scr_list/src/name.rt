@@ -6,6 +6,7 @@ ghost use Rattle.scr_text.specs.Lines.{is_blank};
 ghost use Rattle.scr_list.specs.Names.{is_colon, told_part, name_part, trimmed, is_name_byte, is_name, name_in};
 
 use arrayvec::ArrayString;
+use scr_text::is_blank;
 
 /// A name has at most so many bytes.
 pub const NAME_ROOM: usize = 40;
@@ -86,12 +87,6 @@ fn end_of(text: &[u8]) -> usize
         end -= 1;
     }
     end
-}
-
-fn is_blank(byte: u8) -> bool
-    ensures { result ≡ is_blank byte }
-{
-    byte == b' ' || byte == b'\t'
 }
 
 fn is_name(text: &[u8]) -> bool

@@ -105,3 +105,10 @@ layers_of_parts top bottom p =
     and_true (is_twelfths top && is_twelfths bottom) (not (are_still top bottom))
     (and_true (is_twelfths top) (is_twelfths bottom) (is_twelfths-of top p.top_within) (is_twelfths-of bottom p.bottom_within))
     (ap not p.some)
+
+-- the amounts of a turn, modulo 12, are those of one, unless neither layer is turned
+pub layers-permitted : (x y : ℤ) → are_still (twelfths x) (twelfths y) ≡ false
+    → IsTrue (is_layer_turn (Layers (twelfths x) (twelfths y)))
+layers-permitted x y some =
+    layers_of_parts (twelfths x) (twelfths y)
+    (record { top_within = (AreTwelfths-twelfths x).within; bottom_within = (AreTwelfths-twelfths y).within; some = some })

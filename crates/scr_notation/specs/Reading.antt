@@ -1,12 +1,12 @@
 -- What reading the text of a scramble finds.
-use Rattle.std.specs.Prelude.{◌≡◌, ℕ, ◌+◌, ◌<◌, ◌==◌, IsTrue, if◌then◌else◌, List, [], ◌∷◌, ◌++◌, length, map, take, All}
+use Rattle.std.specs.Prelude.{◌≡◌, ℕ, ◌+◌, ◌<◌, ◌==◌, IsTrue, if◌then◌else◌, List, [], ◌∷◌, ◌++◌, length, map, take, All, Option, Some, None}
 use Rattle.std.specs.List.{slice_split}
 use Rattle.scr_notation.specs.declared.event.Event.{Event}
 use Rattle.scr_notation.specs.declared.turn.Turn.{Turn}
 use Rattle.scr_notation.specs.declared.reading.NotationFault.{NotationFault}
 use Rattle.scr_notation.specs.declared.reading.NotationFault.TheVariants.{Spelling, TooLong}
 use Rattle.scr_notation.specs.Turns.{permits}
-use Rattle.scr_notation.specs.Spelling.{spelling}
+use Rattle.scr_notation.specs.Spelling.{spelling, text_of}
 use Rattle.scr_notation.specs.Written.{Written, IsWritten}
 
 -- The words of a text: none of the empty text, and otherwise what stands between its spaces (byte 32). So two
@@ -38,6 +38,11 @@ pub record IsFirstFault (event : Event) (text : List ℕ) (fault : NotationFault
   pub words : spaced_words text ≡ before ++ word ∷ behind
   pub spelled : All (IsSpelling event) before
   pub at_fault : IsFault event before word fault
+
+-- A text is parsed: it is that of a scramble of the event, or of none.
+abbrev pub IsParsed : Event → List ℕ → Option Written → Type 0
+IsParsed event text (Some s) = IsWritten s × (s.event ≡ event) × (text_of s.turns ≡ text)
+IsParsed event text None = (s : Written) → IsWritten s → s.event ≡ event → text_of s.turns ≡ text → ⊥
 
 -- A word is read as one more turn of a scramble, and the next word begins at this place.
 pub record IsReadAs (before : Written) (word : List ℕ) (after : Written) (behind : ℕ) : Type 0 where

@@ -3,7 +3,7 @@ ghost use Rattle.std.specs.Prelude.{◌≡◌, ◌<◌, map, Ok, IsTrue, IsNone,
 ghost use Rattle.scr_notation.specs.Turns.{permits};
 ghost use Rattle.scr_notation.specs.Spelling.{spelling, text_of};
 ghost use Rattle.scr_notation.specs.Written.{Written, IsWritten};
-ghost use Rattle.scr_notation.specs.Reading.{IsSpelling, place_after, IsFault, IsFirstFault, IsReadAs};
+ghost use Rattle.scr_notation.specs.Reading.{IsSpelling, place_after, IsFault, IsFirstFault, IsParsed, IsReadAs};
 
 use crate::candidate::candidate;
 use crate::event::Event;
@@ -38,6 +38,16 @@ pub fn parse(event: Event, text: &str) -> Result<Scramble, NotationFault>
         place = read_next(&mut scramble, place, word)?;
     }
     Ok(scramble)
+}
+
+/// The scramble of this event whose text these bytes are. `None` comes exactly where they are the text of none.
+pub fn parse_bytes(event: Event, text: &[u8]) -> Option<Scramble>
+    ensures { IsParsed event text.now result }
+{
+    match str::from_utf8(text) {
+        Ok(text) => parse(event, text).ok(),
+        Err(_) => None,
+    }
 }
 
 /// Reads one more word, which begins at byte `place`, as a turn of the scramble. It answers the byte behind the word

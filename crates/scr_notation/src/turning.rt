@@ -1,12 +1,12 @@
 //! Scrambles taken back and tidied.
-ghost use Rattle.std.specs.Prelude.{◌≡◌, ◌+◌, ◌-◌, ◌<◌, ◌≤◌, neg_ℤ, ◌+ℤ◌, reverse, length, IsTrue};
+ghost use Rattle.std.specs.Prelude.{◌≡◌, ◌+◌, ◌-◌, ◌<◌, ◌≤◌, neg_ℤ, ◌+ℤ◌, reverse, length, IfSome, IsTrue};
 ghost use Rattle.arrayvec.specs.ArrayVec.{array_vec_len};
 ghost use Rattle.scr_combinatorics.specs.Back.{back};
 ghost use Rattle.scr_combinatorics.specs.Tidy.{with_turn, tidy};
 ghost use Rattle.scr_notation.specs.declared.event.Event.TheVariants.{Clock};
 ghost use Rattle.scr_notation.specs.Event.{kind_of};
 ghost use Rattle.scr_notation.specs.Written.{IsWritten};
-ghost use Rattle.scr_notation.specs.Layers.{twelfths};
+ghost use Rattle.scr_notation.specs.Layers.{twelfths, is_layer_turn};
 ghost use Rattle.scr_notation.specs.Turning.{opposite, are_alike, face_turned, layers_turned, turns_merged, turn_merging, has_merging};
 
 use crate::scramble::{MOST_TURNS, Scramble, push_turn};
@@ -150,10 +150,7 @@ fn turns_merged(turn: Turn, other: Turn) -> Option<Turn>
                 top: more_top,
                 bottom: more_bottom,
             },
-        ) => layers_turned(
-            twelfths_sum(top, more_top),
-            twelfths_sum(bottom, more_bottom),
-        ),
+        ) => layers_turned(sum(top, more_top), sum(bottom, more_bottom)),
         _ => None,
     }
 }
@@ -172,14 +169,24 @@ fn face_turned(face: u8, depth: u8, amount: u8) -> Option<Turn>
     })
 }
 
-/// The layers turned so far, or nothing where neither turns.
-fn layers_turned(top: i8, bottom: i8) -> Option<Turn>
-    ensures { result ≡ layers_turned top bottom }
+/// The layers of a Square-1 turned by so many twelfths, of which whole turns are dropped, or nothing where neither turns.
+pub fn layers_turned(top: i16, bottom: i16) -> Option<Turn>
+    ensures value { result ≡ layers_turned (twelfths top) (twelfths bottom) }
+    ensures turn { IfSome result (λ turn. IsTrue (is_layer_turn turn)) }
 {
+    let top = twelfths(top);
+    let bottom = twelfths(bottom);
     if top == 0 && bottom == 0 {
         return None;
     }
     Some(Turn::Layers { top, bottom })
+}
+
+/// The sum of two amounts.
+fn sum(amount: i8, more: i8) -> i16
+    ensures { result ≡ amount +ℤ more }
+{
+    amount as i16 + more as i16
 }
 
 /// What is left of three thirds.
@@ -194,13 +201,6 @@ fn twelfths_back(amount: i8) -> i8
     ensures { result ≡ twelfths (neg_ℤ amount) }
 {
     twelfths(-(amount as i16))
-}
-
-/// The sum of two amounts of twelfths.
-fn twelfths_sum(amount: i8, more: i8) -> i8
-    ensures { result ≡ twelfths (amount +ℤ more) }
-{
-    twelfths(amount as i16 + more as i16)
 }
 
 /// Twelfths of a turn, modulo 12, from -5 to 6.

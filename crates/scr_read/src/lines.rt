@@ -1,8 +1,9 @@
 //! The lines of a text, and what stands in them behind a front.
 
-ghost use Rattle.std.specs.Prelude.{◌≡◌, ◌<◌, ◌++◌, ◌∷◌, List, ℕ, length, position, MatchOption, IfSome};
-ghost use Rattle.scr_text.specs.Lines.{is_line_feed};
+ghost use Rattle.std.specs.Prelude.{◌≡◌, ◌++◌, ◌∷◌, List, ℕ, MatchOption};
 ghost use Rattle.scr_read.specs.Faults.{IsOneLine, Begins};
+
+use scr_text::line_feed;
 
 /// The first line of a text, without its line feed, and what follows; `None` where no line feed stands in the text.
 pub fn first_line(text: &[u8]) -> Option<(&[u8], &[u8])>
@@ -13,14 +14,6 @@ pub fn first_line(text: &[u8]) -> Option<(&[u8], &[u8])>
         Some(end) => Some((&text[..end], &text[end + 1..])),
         None => None,
     }
-}
-
-/// The place of the first line feed.
-fn line_feed(text: &[u8]) -> Option<usize>
-    ensures place { result ≡ position is_line_feed text.now }
-    ensures within { IfSome result (λ end. end < length text.now) }
-{
-    text.iter().position(|byte| *byte == b'\n')
 }
 
 /// What stands in a line behind a front, if the line begins with it.

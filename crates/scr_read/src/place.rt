@@ -2,8 +2,6 @@
 
 ghost use Rattle.std.specs.Prelude.{◌≡◌, ◌↔◌, ◌+◌, ◌<◌, ◌≤◌, [], IsTrue, IfSome, IsNone, codes};
 ghost use Rattle.scr_notation.specs.Event.{per_group_of};
-ghost use Rattle.scr_notation.specs.Spelling.{text_of};
-ghost use Rattle.scr_notation.specs.Written.{Written, IsWritten};
 ghost use Rattle.scr_read.specs.Heads.{HeadOf};
 ghost use Rattle.scr_read.specs.Reading as spec;
 ghost use Rattle.scr_read.specs.Reading.{Between, IsHeading, IsWhole};
@@ -15,7 +13,7 @@ use crate::fault::SheetCause;
 use crate::head::read_head;
 use crate::lines::behind;
 use crate::piece::Piece;
-use scr_notation::{Event, Scramble, parse};
+use scr_notation::{Event, parse_bytes};
 use scr_round::{group_name, label};
 
 /// Where a reader stands.
@@ -168,7 +166,7 @@ fn read_slot(
     let Some(text) = behind(label.as_str(), line) else {
         return Err(SheetCause::Label);
     };
-    match read_scramble(event, text) {
+    match parse_bytes(event, text) {
         Some(scramble) => Ok(Step {
             piece: Piece::Slot(scramble),
             next: Stand::InGroup {
@@ -179,17 +177,6 @@ fn read_slot(
             },
         }),
         None => Err(SheetCause::Scramble),
-    }
-}
-
-/// The scramble of an event whose text these bytes are, if they are one.
-fn read_scramble(event: Event, text: &[u8]) -> Option<Scramble>
-    ensures found { IfSome result (λ s. IsWritten s × (s.event ≡ event) × (text_of s.turns ≡ text.now)) }
-    ensures none { IsNone result → (s : Written) → IsWritten s → s.event ≡ event → text_of s.turns ≡ text.now → ⊥ }
-{
-    match str::from_utf8(text) {
-        Ok(text) => parse(event, text).ok(),
-        Err(_) => None,
     }
 }
 

@@ -1,26 +1,22 @@
 -- What a text is judged to be, by the state that a slot draws and by what the text is read as.
-use Rattle.std.proofs.Common.{◌≡◌, ℕ, ◌≤◌, Bool, false, List, IsTrue, sym, ap, ◌∙◌, subst}
+use Rattle.std.proofs.Common.{◌≡◌, ℕ, ◌≤◌, Bool, false, List, IsTrue, sym, ap, ◌∙◌}
 use Rattle.std.specs.Prelude.{Option, Some, None, ◌↔◌}
-use Rattle.std.specs.Str.{bytes_eq, IsUtf8}
+use Rattle.std.specs.Str.{bytes_eq}
 use Rattle.std.proofs.lemmas.Option.{same_Some}
 use Rattle.std.proofs.lemmas.Slice.Eq.{bytes_eq-Decides}
 use Rattle.scr_combinatorics.specs.Numbered.{Numbers}
 use Rattle.scr_combinatorics.specs.Reach.{Puzzle}
 use Rattle.scr_notation.specs.declared.event.Event.{Event}
 use Rattle.scr_notation.specs.declared.turn.Turn.{Turn}
+use Rattle.scr_notation.specs.Reading.{IsParsed}
 use Rattle.scr_notation.specs.Spelling.{text_of}
 use Rattle.scr_notation.specs.Written.{Written, IsWritten}
 use Rattle.scr_notation.proofs.ReadLaws.{one-scramble}
-use Rattle.scr_notation.proofs.TextLaws.{IsUtf8-text_of}
 use Rattle.scr_slots.specs.declared.settings.Settings.{Settings}
 use Rattle.scr_slots.specs.Promised.{RandomMoves, Moves, slot_numbers}
 use Rattle.scr_slots.specs.Slots.{ByMoves, ByListing, IsSlotAnswer}
-use Rattle.scr_slots.specs.Agreement.{LeadToDrawn, IsTextOf, IsTold, IsJudged, IsReadAs}
+use Rattle.scr_slots.specs.Agreement.{LeadToDrawn, IsTextOf, IsTold, IsJudged}
 use Rattle.scr_slots.proofs.Listings.{IsOutcome, one-outcome}
-
--- bytes that are no text are no scramble's
-pub unread : (event : Event) (bytes : List ℕ) → ¬ (IsUtf8 bytes) → IsReadAs event bytes None
-unread event bytes none s written of_event is = none (subst IsUtf8 is (IsUtf8-text_of s.event s.turns written.permitted))
 
 module _ {S : Type 0} (event : Event) (n : Numbers S) (puzzle : Puzzle S) (played : List Turn → Option S) (settings : Settings)
     (least stream : ℕ) (text : List ℕ) (some : 1 ≤ n.count) (state : S)
@@ -33,11 +29,11 @@ module _ {S : Type 0} (event : Event) (n : Numbers S) (puzzle : Puzzle S) (playe
   drawn_some none = let same = one-outcome n puzzle least some (slot_numbers settings stream) None (Some state) none draws in cc
 
   -- a text that is no scramble's doesn't agree
-  pub judged-unread : IsReadAs event text None → IsVerdict (Some false)
+  pub judged-unread : IsParsed event text None → IsVerdict (Some false)
   judged-unread none = (drawn_some, (λ is. cc, λ it. absurd (none it.scramble it.written it.event_is it.is)))
 
   -- and that of a scramble agrees where the scramble leads to the state
-  pub judged-read : (s : Written) → IsReadAs event text (Some s) → (told : Bool)
+  pub judged-read : (s : Written) → IsParsed event text (Some s) → (told : Bool)
       → IsTrue told ↔ played s.turns ≡ Some state → IsVerdict (Some told)
   judged-read s read told leads = (
     drawn_some,

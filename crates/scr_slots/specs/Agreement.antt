@@ -43,8 +43,3 @@ TextAgrees scrambling settings least stream = IsTextOf (event_of_scrambles scram
 abbrev pub IsJudged : {promised : Promised} → Scrambling promised → Settings → ℕ → ℕ → List ℕ → Option Bool → Type 0
 IsJudged scrambling settings least stream text =
     IsTold (HasNoScramble scrambling settings least stream) (TextAgrees scrambling settings least stream text)
-
--- reading a text gives the scramble of an event whose text it is, or none where it is that of no scramble
-abbrev pub IsReadAs : Event → List ℕ → Option Written → Type 0
-IsReadAs event text (Some s) = IsWritten s × (s.event ≡ event) × (text_of s.turns ≡ text)
-IsReadAs event text None = (s : Written) → IsWritten s → s.event ≡ event → text_of s.turns ≡ text → ⊥

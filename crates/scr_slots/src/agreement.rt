@@ -3,7 +3,7 @@
 ghost use Rattle.std.specs.Prelude.{◌≤◌, IsTrue};
 ghost use Rattle.scr_notation.specs.Event.{greatest_of, is_tested_by_table};
 ghost use Rattle.scr_notation.specs.EventSets.{Has};
-ghost use Rattle.scr_slots.specs.Agreement.{IsJudged, IsReadAs};
+ghost use Rattle.scr_slots.specs.Agreement.{IsJudged};
 ghost use Rattle.scr_slots.specs.Events.{scrambling_of};
 
 use crate::asking::{Question, ask};
@@ -11,7 +11,7 @@ use crate::event::{MoveEvent, StateEvent};
 use crate::settings::Settings;
 use crate::tables::Tables;
 use scr_draw::draw;
-use scr_notation::{Event, Scramble, parse, print};
+use scr_notation::{Event, parse_bytes, print};
 use scr_words::ChaChaWords;
 
 /// Whether a text agrees with a slot of an event on this stream: played from solved, it gives the state that the slot
@@ -76,7 +76,7 @@ impl Question for Agreement<'_> {
         let Ok(state) = draw(&mut words, event, self.least, self.settings.attempts) else {
             return None;
         };
-        match read(notation, self.text) {
+        match parse_bytes(notation, self.text) {
             Some(scramble) => Some(event.leads_to(&scramble, &state)),
             None => Some(false),
         }
@@ -87,15 +87,5 @@ impl Question for Agreement<'_> {
             Some(scramble) => Some(print(&scramble).as_str().as_bytes() == self.text),
             None => None,
         }
-    }
-}
-
-/// The scramble of an event whose text these bytes are, if they are one.
-fn read(event: Event, text: &[u8]) -> Option<Scramble>
-    ensures { IsReadAs event text.now result }
-{
-    match str::from_utf8(text) {
-        Ok(text) => parse(event, text).ok(),
-        Err(_) => None,
     }
 }

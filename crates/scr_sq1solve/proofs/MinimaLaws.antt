@@ -17,7 +17,7 @@ use Rattle.scr_notation.specs.declared.turn.Turn.TheVariants.{Layers, Twist}
 use Rattle.scr_notation.specs.Layers.{twelfths, are_still}
 use Rattle.scr_notation.specs.TurnNumbers.{layer_turn_at, turn_at}
 use Rattle.scr_notation.specs.Ranges.{same}
-use Rattle.scr_notation.proofs.LayersLaws.{are_still-first, are_still-second}
+use Rattle.scr_notation.proofs.LayersLaws.{are_still-first, are_still-second, layers-permitted}
 use Rattle.scr_notation.proofs.NumberLaws.{numbered}
 use Rattle.scr_table.specs.Moves.{after_move as number_turned, NeedsTurns, NeverHelps}
 use Rattle.scr_table.proofs.MovesLaws.{turned-turn}
@@ -30,7 +30,6 @@ use Rattle.scr_sq1.proofs.Lawful.{turned-still, sq1_after-layers, sq1_after-by_l
 use Rattle.scr_sq1.proofs.NumberedTurns.{number-after, top_of, bottom_of, twist_number, layers_number}
 use Rattle.scr_sq1solve.specs.Minima.{is_solved_sq1, sq1_moves, needs_test_sq1}
 use Rattle.scr_sq1tables.proofs.PairingStage.{same-true}
-use Rattle.scr_sq1tables.proofs.LetterWords.{layers-permitted}
 
 -- ---- solved states
 

@@ -7,7 +7,7 @@ use Rattle.scr_notation.proofs.Below.{All-from_test}
 use Rattle.scr_orbit.proofs.OrbitLaws.{places_in}
 use Rattle.scr_positions.proofs.MoveLaws.{each_below-at, each_below-more, each_below-none, length-each_below}
 use Rattle.scr_sq1tables.proofs.Codes.{IsPairing-carried, StaysBelow-code_lists, codes_one_to_one, larger-lt, pair-lt, pieces-are, turned-lt}
-use Rattle.scr_sq1tables.proofs.LetterWords.{layers-permitted-by, layers-written, still-written, turn_word-same}
+use Rattle.scr_sq1tables.proofs.LetterWords.{still-written, turn_word-same}
 use Rattle.scr_sq1tables.proofs.PairingStage.{StaysBelow-pairing_lists}
 use Rattle.scr_sq1tables.proofs.ShapeStage.{StaysBelow-parts, StaysBelow-shapes, after-amounts, layers-index, letter-index, part-made, part-seen, parts-below, state-of_index, still-index, still-parts}
 use Rattle.std.proofs.lemmas.Int.{ints, to_z-of_z}
@@ -27,7 +27,7 @@ pub ruleset pairs_of = (permutation_number-lt, length-pick)
 
 pub ruleset first_turn = (ints, turn_word-same)
 
-pub ruleset push_layers = (to_z-of_z, still-written, layers-written, layers-permitted-by)
+pub ruleset push_layers = (to_z-of_z, still-written)
 
 pub ruleset shape_moves_after = (by_letters-played, letter-index)
 

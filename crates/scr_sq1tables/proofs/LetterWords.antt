@@ -1,15 +1,15 @@
 -- Letters as words: how they are put together turn by turn.
-use Rattle.std.proofs.Common.{◌≡◌, true, false, IsTrue, List, [], ◌∷◌, ◌++◌, refl, sym, ap, ◌∙◌, ℕ}
+use Rattle.std.proofs.Common.{◌≡◌, Bool, true, false, cond, List, [], ◌∷◌, ◌++◌, Some, None, refl, sym, ap, ◌∙◌, ℕ}
 use Rattle.std.specs.Prelude.{ℕ, ℤ, pos, negsuc, ◌%◌, nat_lt, flat_map}
 use Rattle.std.proofs.lemmas.Bool.{cond-true, cond-false}
 use Rattle.std.proofs.lemmas.List.{append-nil}
 use Rattle.scr_notation.specs.declared.event.Event.TheVariants.{Sq1}
 use Rattle.scr_notation.specs.declared.turn.Turn.{Turn}
 use Rattle.scr_notation.specs.declared.turn.Turn.TheVariants.{Layers}
-use Rattle.scr_notation.specs.Layers.{twelfths, are_still, is_layer_turn}
-use Rattle.scr_notation.specs.Turns.{permits}
+use Rattle.scr_combinatorics.specs.Tidy.{word_of}
+use Rattle.scr_notation.specs.Layers.{twelfths, are_still}
+use Rattle.scr_notation.specs.Turning.{layers_turned}
 use Rattle.scr_notation.specs.Written.{Written}
-use Rattle.scr_notation.proofs.LayersLaws.{AreTwelfths-twelfths, layers_of_parts}
 use Rattle.scr_sq1tables.specs.Stages.{turn_word, quarter_word, shape_letter, pairing_letter, home_letter, edge_word, corner_word}
 use Rattle.scr_sq1tables.specs.Letters.{first_word, step_word}
 use Rattle.scr_sq1tables.specs.declared.stage_letters.StageLetters.TheVariants.{OfShapes, OfPairings, OfHome}
@@ -18,21 +18,13 @@ use Rattle.scr_sq1tables.specs.declared.stage_letters.Step.TheVariants.{Turned, 
 
 -- ---- turns of the layers
 
--- the amounts of a turn, modulo 12, are those of one, unless neither layer is turned
-pub layers-permitted : (x y : ℤ) → are_still (twelfths x) (twelfths y) ≡ false
-    → IsTrue (is_layer_turn (Layers (twelfths x) (twelfths y)))
-layers-permitted x y some =
-    layers_of_parts (twelfths x) (twelfths y)
-    (record { top_within = (AreTwelfths-twelfths x).within; bottom_within = (AreTwelfths-twelfths y).within; some = some })
-
-pub turn_word-some : (x y : ℤ) → are_still (twelfths x) (twelfths y) ≡ false
-    → turn_word x y ≡ Layers (twelfths x) (twelfths y) ∷ []
-unfolding turn_word
-turn_word-some x y some = cond-false (are_still (twelfths x) (twelfths y)) [] (Layers (twelfths x) (twelfths y) ∷ []) some
-
-pub turn_word-none : (x y : ℤ) → are_still (twelfths x) (twelfths y) ≡ true → turn_word x y ≡ []
-unfolding turn_word
-turn_word-none x y still = cond-true (are_still (twelfths x) (twelfths y)) [] (Layers (twelfths x) (twelfths y) ∷ []) still
+-- a turn of the layers is a word of one turn, or of none
+turn_word-is : (x y : ℤ) → turn_word x y ≡ word_of (layers_turned (twelfths x) (twelfths y))
+unfolding turn_word word_of
+turn_word-is x y = by_test (are_still (twelfths x) (twelfths y)) (Layers (twelfths x) (twelfths y)) where
+  by_test : (b : Bool) (t : Turn) → cond b [] (t ∷ []) ≡ word_of (cond b None (Some t))
+  by_test true t = refl
+  by_test false t = refl
 
 -- ---- letters by their first turn and their later steps
 
@@ -72,27 +64,18 @@ abbrev pub written : List Turn → Written
 written turns = record { event = Sq1; turns = turns }
 
 -- no turn, or one, behind a word
-pub still-written : (v : Written) (x y a b : ℤ) → v.event ≡ Sq1 → a ≡ twelfths x → b ≡ twelfths y → are_still a b ≡ true
+pub still-written : (v : Written) (x y : ℤ) → v.event ≡ Sq1 → layers_turned (twelfths x) (twelfths y) ≡ None
     → v ≡ written (v.turns ++ turn_word x y)
-still-written v x y a b event top bottom still =
-    let is : are_still (twelfths x) (twelfths y) ≡ true = sym (ap (λ z. are_still z b) top ∙ ap (are_still (twelfths x)) bottom) ∙ still in
-    let none = turn_word-none x y is in
+unfolding word_of
+still-written v x y event none =
+    let no_turn : turn_word x y ≡ [] = turn_word-is x y ∙ ap word_of none in
     let whole = append-nil v.turns in
     let same : (let w : Written = record { event = v.event; turns = v.turns } in w ≡ written (v.turns ++ turn_word x y)) = cc in
     same
 
-pub layers-written : (v w : Written) (x y a b : ℤ) → v.event ≡ Sq1 → a ≡ twelfths x → b ≡ twelfths y
-    → are_still a b ≡ false → w ≡ record { event = v.event; turns = v.turns ++ Layers a b ∷ [] }
-    → w ≡ written (v.turns ++ turn_word x y)
-layers-written v w x y a b event top bottom some made =
-    let is : are_still (twelfths x) (twelfths y) ≡ false = sym (ap (λ z. are_still z b) top ∙ ap (are_still (twelfths x)) bottom) ∙ some in
-    let one = turn_word-some x y is in
+pub layers-written : (v w : Written) (x y : ℤ) (t : Turn) → v.event ≡ Sq1 → layers_turned (twelfths x) (twelfths y) ≡ Some t
+    → w ≡ record { event = v.event; turns = v.turns ++ t ∷ [] } → w ≡ written (v.turns ++ turn_word x y)
+unfolding word_of
+layers-written v w x y t event some made =
+    let one : turn_word x y ≡ t ∷ [] = turn_word-is x y ∙ ap word_of some in
     cc
-
-pub layers-permitted-by : (v : Written) (x y a b : ℤ) → v.event ≡ Sq1 → a ≡ twelfths x → b ≡ twelfths y
-    → are_still a b ≡ false → IsTrue (permits v.event (Layers a b))
-layers-permitted-by v x y a b event top bottom some =
-    let is : are_still (twelfths x) (twelfths y) ≡ false = sym (ap (λ z. are_still z b) top ∙ ap (are_still (twelfths x)) bottom) ∙ some in
-    ap (λ e. permits e (Layers a b)) event
-    ∙ ap (λ z. is_layer_turn (Layers z b)) top ∙ ap (λ z. is_layer_turn (Layers (twelfths x) z)) bottom
-    ∙ layers-permitted x y is

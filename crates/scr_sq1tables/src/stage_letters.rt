@@ -1,12 +1,11 @@
 //! The letters of the stages, as words of turns.
 ghost use Rattle.std.specs.Prelude.{◌≡◌, ◌+◌, ◌<◌, ◌≤◌, [], ◌++◌, All, flat_map, length};
 ghost use Rattle.scr_notation.specs.declared.event.Event.TheVariants.{Sq1 as EventSq1};
-ghost use Rattle.scr_notation.specs.Layers.{twelfths, are_still};
 ghost use Rattle.scr_sq1tables.specs.Stages.{turn_word, equator_word};
 ghost use Rattle.scr_sq1tables.specs.Letters.{step_word, first_word, letter_of};
 ghost use Rattle.scr_combinatorics.specs.Stages.{spelled};
 
-use scr_notation::{Event, Scramble, Turn, push_turn};
+use scr_notation::{Event, Scramble, Turn, layers_turned, push_turn};
 
 /// The letters of which stage.
 #[derive(Clone, Copy, Debug, PartialEq, Eq)]
@@ -197,25 +196,7 @@ fn push_layers(word: &mut Scramble, top: i16, bottom: i16)
     ensures word { word.new ≡ record { event = EventSq1; turns = word.old.turns ++ turn_word top bottom } }
     ensures few { length word.new.turns ≤ length word.old.turns + 1 }
 {
-    let top = twelfths(top);
-    let bottom = twelfths(bottom);
-    if are_still(top, bottom) {
-        return;
+    if let Some(turn) = layers_turned(top, bottom) {
+        push_turn(word, turn);
     }
-    push_turn(word, Turn::Layers { top, bottom });
-}
-
-/// Whether neither layer is turned.
-#[inline]
-pub(crate) fn are_still(top: i8, bottom: i8) -> bool
-    ensures { result ≡ are_still top bottom }
-{
-    top == 0 && bottom == 0
-}
-
-/// Twelfths of a turn, modulo 12, from -5 to 6.
-fn twelfths(amount: i16) -> i8
-    ensures { result ≡ twelfths amount }
-{
-    ((amount as i32 + 5).rem_euclid(12) - 5) as i8
 }

@@ -9,5 +9,5 @@
 mod lines;
 mod number;
 
-pub use lines::{split_line, word_at};
+pub use lines::{is_blank, line_feed, split_line, word_at};
 pub use number::{decimal, number_within};

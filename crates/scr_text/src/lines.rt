@@ -20,7 +20,7 @@ pub fn split_line(text: &[u8]) -> (&[u8], Option<&[u8]>)
 }
 
 /// The place of the first line feed.
-fn line_feed(text: &[u8]) -> Option<usize>
+pub fn line_feed(text: &[u8]) -> Option<usize>
     ensures place { result ≡ position is_line_feed text.now }
     ensures within { IfSome result (λ end. end < length text.now) }
 {
@@ -41,12 +41,13 @@ fn without_return(line: &[u8]) -> &[u8]
 pub fn word_at(line: &[u8], place: usize) -> Option<&[u8]>
     ensures { option_copied result ≡ slice_get (line_words line.now) place }
 {
-    line.split(|byte| is_space_or_tab(*byte))
+    line.split(|byte| is_blank(*byte))
         .filter(|word| !word.is_empty())
         .nth(place)
 }
 
-fn is_space_or_tab(byte: u8) -> bool
+/// Whether a byte is a blank, which is a space or a tab.
+pub fn is_blank(byte: u8) -> bool
     ensures { result ≡ is_blank byte }
 {
     byte == b' ' || byte == b'\t'

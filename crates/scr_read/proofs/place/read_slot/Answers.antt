@@ -1,4 +1,4 @@
-use Rattle.std.proofs.Common.{◌≡◌, ◌++◌, Some, refl, sym, ap, subst, ◌∙◌}
+use Rattle.std.proofs.Common.{◌≡◌, ◌++◌, Some, sym, ap, subst, ◌∙◌}
 use Rattle.std.specs.Prelude.{slice_get}
 use Rattle.scr_round.specs.Round.{labels_from}
 use Rattle.scr_read.proofs.PlaceLemmas.{no_label, no_scramble}
@@ -14,4 +14,4 @@ pub returns-in-None : goal.returns-in-None
 returns-in-None c =
     let there = subst (λ n. slice_get (labels_from 1 n) c.args.slot ≡ Some c.label-label.result.bytes) (c.from.ensures ∙ c.per_group.ensures.value) c.label-label.ensures in
     no_scramble c.args.rounds c.args.event c.args.groups c.args.slot c.label-label.result.bytes there c.args.line.now c.in-Some.text.now
-    (c.in-Some.ensures ∙ ap (λ x. x ++ c.in-Some.text.now) c.as_str.ensures.value) (c.in-None.ensures.none refl)
+    (c.in-Some.ensures ∙ ap (λ x. x ++ c.in-Some.text.now) c.as_str.ensures.value) c.in-None.ensures
