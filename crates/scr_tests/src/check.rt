@@ -7,6 +7,7 @@ ghost use Rattle.scr_tests.specs.CheckRows.{row_lines};
 use scr_check::*;
 use scr_outside::{Failed, MemSource};
 use std::alloc::{AllocError, Global};
+use std::process::Abort;
 use std::test::Fail;
 
 /// So many lines: each is `ab`, but the last, which is empty. The slot of one line may be missing.
@@ -46,11 +47,11 @@ fn checked(
     rows: Rows,
     sheet: &[u8],
     most: usize,
-    fails: Vec<u32>,
+    fails: &[u32],
 ) -> Result<Result<(), CheckFault>, AllocError>
     requires { 0 < most }
 {
-    let mut source = MemSource::new(sheet.to_vec(alloc)?, most, fails);
+    let mut source = MemSource::new(sheet.to_vec(alloc)?, most, fails.to_vec(alloc)?);
     let mut reader = ByteReader::new(&mut source);
     Ok(check_lines(&mut reader, &rows))
 }
@@ -62,23 +63,9 @@ fn comes_to(
     sheet: &[u8],
     wanted: Result<(), CheckFault>,
 ) -> Result<bool, AllocError> {
-    let single = checked(alloc, rows, sheet, 1, Vec::new(alloc))?;
-    let whole = checked(alloc, rows, sheet, 4096, Vec::new(alloc))?;
+    let single = checked(alloc, rows, sheet, 1, &[])?;
+    let whole = checked(alloc, rows, sheet, 4096, &[])?;
     Ok(single == wanted && whole == wanted)
-}
-
-/// That a line differs.
-const fn differs(line: u32) -> Result<(), CheckFault> {
-    Err(CheckFault::Differs { line })
-}
-
-/// That the slot of a line is missing.
-const fn lacks(slot: u32) -> Result<(), CheckFault> {
-    Err(CheckFault::Limit(Missing {
-        round: 1,
-        slot,
-        words: 3,
-    }))
 }
 
 /// That the second slot is missing.
@@ -126,26 +113,57 @@ fn sheets_are_checked(rt: HostRuntime) -> Result<(), Fail> {
     Ok(())
 }
 
+/// The slot that is missing, if any, where two lines are expected, and what the check of a sheet with a long line says.
+static OF_LONG_LINES: [(u8, Result<(), CheckFault>); 2] = [
+    (0, Err(CheckFault::Differs { line: 1 })),
+    (
+        1,
+        Err(CheckFault::Limit(Missing {
+            round: 1,
+            slot: 1,
+            words: 3,
+        })),
+    ),
+];
+
+/// A line is judged by its first 1,301 bytes: the read behind them isn't made.
+static READS_OF_A_LONG_LINE: [(u32, CheckFault); 2] = [
+    (1302, CheckFault::Differs { line: 1 }),
+    (1301, CheckFault::Read),
+];
+
+/// A sheet of one line is judged as one with a long line.
+fn is_long<R: Abort + AllocGlobal>(rt: &R, sheet: &[u8]) -> Result<(), Fail> {
+    for (missing, wanted) in &OF_LONG_LINES {
+        let rows = Rows {
+            count: 2,
+            missing: *missing,
+        };
+        assert!(rt; comes_to(rt.alloc(), rows, sheet, *wanted)?);
+    }
+    Ok(())
+}
+
+/// A sheet of a long line is read so far as the line is judged.
+fn is_read_in_part<R: Abort + AllocGlobal>(rt: &R, sheet: &[u8]) -> Result<(), Fail> {
+    let rows = Rows {
+        count: 2,
+        missing: 0,
+    };
+    for (call, fault) in &READS_OF_A_LONG_LINE {
+        assert!(rt; checked(rt.alloc(), rows, sheet, 1, &[*call])? == Err(*fault));
+    }
+    Ok(())
+}
+
 #[test]
 fn long_lines(rt: HostRuntime) -> Result<(), Fail> {
     let mut sheet = vec![in rt.alloc(); b'a'; 1299]?;
     for _ in 0..3 {
         sheet.push(b'a')?;
-        for (missing, wanted) in [(0, differs(1)), (1, lacks(1))] {
-            let rows = Rows { count: 2, missing };
-            assert!(rt; comes_to(rt.alloc(), rows, &sheet, wanted)?);
-        }
+        is_long(&rt, &sheet)?;
     }
-    // A line is judged by its first 1,301 bytes: the read behind them isn't made.
-    let rows = Rows {
-        count: 2,
-        missing: 0,
-    };
-    let fails = vec![in rt.alloc(); 1302]?;
-    assert!(rt; checked(rt.alloc(), rows, &sheet, 1, fails)? == differs(1));
-    let fails = vec![in rt.alloc(); 1301]?;
-    assert!(rt; checked(rt.alloc(), rows, &sheet, 1, fails)? == Err(CheckFault::Read));
-    Ok(())
+    is_read_in_part(&rt, &sheet)
 }
 
 #[test]
@@ -155,13 +173,15 @@ fn reads_that_fail(rt: HostRuntime) -> Result<(), Fail> {
         missing: 0,
     };
     // The eighth read would meet the end.
-    for call in 1..9 {
-        let fails = vec![in rt.alloc(); call]?;
-        let answer = checked(rt.alloc(), rows, b"ab\nab\n\n", 1, fails)?;
-        assert!(rt; answer == Err(CheckFault::Read), "{call}");
+    for call in 1..10 {
+        let answer = checked(rt.alloc(), rows, b"ab\nab\n\n", 1, &[call])?;
+        let wanted = if call < 9 {
+            Err(CheckFault::Read)
+        } else {
+            Ok(())
+        };
+        assert!(rt; answer == wanted, "{call}");
     }
-    let later = vec![in rt.alloc(); 9]?;
-    assert!(rt; checked(rt.alloc(), rows, b"ab\nab\n\n", 1, later)? == Ok(()));
     Ok(())
 }
 
@@ -220,6 +240,13 @@ fn inputs_are_split(rt: HostRuntime) -> Result<(), Fail> {
     Ok(())
 }
 
+/// How many bytes the list part of an input has, unless reading fails.
+fn list_length(alloc: Global, input: Vec<u8>) -> Option<usize> {
+    let mut source = MemSource::new(input, 1000, Vec::new(alloc));
+    let part = list_part(&mut ByteReader::new(&mut source));
+    part.ok().map(|list| list.len())
+}
+
 #[test]
 fn long_lists(rt: HostRuntime) -> Result<(), Fail> {
     let mut input = vec![in rt.alloc(); b'\n'; 16384]?;
@@ -227,9 +254,7 @@ fn long_lists(rt: HostRuntime) -> Result<(), Fail> {
     input.extend_from_slice(b"=====\nab\n")?;
     assert!(rt; is_split(rt.alloc(), &input, 4096, &list, b"ab\n")?);
     input.insert(0, b'\n')?;
-    let mut source = MemSource::new(input, 1000, Vec::new(rt.alloc()));
-    let part = list_part(&mut ByteReader::new(&mut source));
-    assert_eq!(rt; part.ok().map(|list| list.len()), Some(LIST_ROOM));
+    assert_eq!(rt; list_length(rt.alloc(), input), Some(LIST_ROOM));
     Ok(())
 }
 

@@ -1,4 +1,4 @@
-ghost use Rattle.std.specs.Prelude.{ℕ, ◌<◌, ◌↔◌, nat_le};
+ghost use Rattle.std.specs.Prelude.{ℕ, ◌<◌, ◌≤◌, ◌↔◌, nat_le};
 ghost use Rattle.scr_combinatorics.specs.Reach.{IsReached};
 ghost use Rattle.scr_draw.specs.Row.{row_puzzle};
 
@@ -63,44 +63,60 @@ const LIMIT: [u32; 6] = [
     0xfff1c980, 0xffffffff, 0xffffffff, 0xfff1c97f, 0xffffffff, 0xffffffff,
 ];
 
+/// The attempts of a list of words, at three counts.
+fn attempted(list: &[u32], first: u128, second: u128, third: u128) -> [Option<u128>; 3]
+    requires first { 0 < first }
+    requires second { 0 < second }
+    requires third { 0 < third }
+{
+    let mut words = ListWords::new(list);
+    [
+        attempt(&mut words, first),
+        attempt(&mut words, second),
+        attempt(&mut words, third),
+    ]
+}
+
 #[test]
 fn attempts_at_the_limit(rt: HostRuntime) {
-    let mut words = ListWords::new(&LIMIT);
-    assert_eq!(rt; attempt(&mut words, STATES), None);
-    assert_eq!(rt; attempt(&mut words, STATES), Some(3674159));
-    assert_eq!(rt; attempt(&mut words, STATES), Some(0));
-    let list = [0, 1];
-    let mut one = ListWords::new(&list);
-    assert_eq!(rt; attempt(&mut one, 1 << 32), Some(0));
-    assert_eq!(rt; attempt(&mut one, 1 << 96), Some(0));
+    let found = attempted(&LIMIT, STATES, STATES, STATES);
+    assert_eq!(rt; found, [None, Some(3674159), Some(0)]);
+    let found = attempted(&[0, 1], 1 << 32, 1 << 96, 1 << 96);
+    assert_eq!(rt; found, [Some(0), Some(0), Some(0)]);
+}
+
+const REFUSED: [u32; 6] = [
+    0xfff1c980, 0xffffffff, 0xffffffff, 0xfff1c980, 0xffffffff, 0xffffffff,
+];
+
+/// Lists of words, the minimum, how many attempts are made, what is drawn, and the word that comes next.
+static DRAWS: [(&[u32], u32, u32, Result<u128, DrawLimit>, u32); 8] = [
+    (&LIMIT, 0, 2, Ok(3674159), 0),
+    (&LIMIT, 0, 1, Err(DrawLimit { words: 3 }), 0xfff1c97f),
+    (&REFUSED, 0, 2, Err(DrawLimit { words: 6 }), 0),
+    (&REFUSED, 0, 3, Ok(0), 0),
+    (&[], 1, 1_000_000, Err(DrawLimit { words: 3_000_000 }), 0),
+    (&[], 1, 5, Err(DrawLimit { words: 15 }), 0),
+    (&[], 0, 5, Ok(0), 0),
+    (&[4, 0, 0, 5, 0, 0, 6, 0, 0, 7], 5, 1_000_000, Ok(5), 6),
+];
+
+/// What is drawn of a list of words, and the word that comes next.
+fn drawn(list: &[u32], least: u32, attempts: u32) -> (Result<u128, DrawLimit>, u32)
+    requires least { least ≤ 4000000 }
+    requires few { attempts ≤ 1000000 }
+{
+    let mut words = ListWords::new(list);
+    let drawn = draw(&mut words, &Row, least, attempts);
+    (drawn, words.next())
 }
 
 #[test]
 fn draws_of_a_list(rt: HostRuntime) {
-    let mut words = ListWords::new(&LIMIT);
-    assert_eq!(rt; draw(&mut words, &Row, 0, 2), Ok(3674159));
-    let mut words = ListWords::new(&LIMIT);
-    assert_eq!(rt; draw(&mut words, &Row, 0, 1), Err(DrawLimit { words: 3 }));
-    assert_eq!(rt; words.next(), 0xfff1c97f);
-    let refused = [
-        0xfff1c980, 0xffffffff, 0xffffffff, 0xfff1c980, 0xffffffff, 0xffffffff,
-    ];
-    let mut words = ListWords::new(&refused);
-    assert_eq!(rt; draw(&mut words, &Row, 0, 2), Err(DrawLimit { words: 6 }));
-    let mut words = ListWords::new(&refused);
-    assert_eq!(rt; draw(&mut words, &Row, 0, 3), Ok(0));
-    let mut zeros = ListWords::new(&[]);
-    assert_eq!(rt;
-        draw(&mut zeros, &Row, 1, 1_000_000),
-        Err(DrawLimit { words: 3_000_000 })
-    );
-    let mut zeros = ListWords::new(&[]);
-    assert_eq!(rt; draw(&mut zeros, &Row, 1, 5), Err(DrawLimit { words: 15 }));
-    assert_eq!(rt; draw(&mut zeros, &Row, 0, 5), Ok(0));
-    let list = [4, 0, 0, 5, 0, 0, 6, 0, 0, 7];
-    let mut words = ListWords::new(&list);
-    assert_eq!(rt; draw(&mut words, &Row, 5, 1000000), Ok(5));
-    assert_eq!(rt; words.next(), 6);
+    for (list, least, attempts, wanted, next) in &DRAWS {
+        assert!(rt; *least <= 4_000_000 && *attempts <= 1_000_000);
+        assert_eq!(rt; drawn(list, *least, *attempts), (*wanted, *next));
+    }
 }
 
 #[test]

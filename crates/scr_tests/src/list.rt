@@ -62,75 +62,63 @@ fn reads(
     )
 }
 
-/// A list of so many lines `clock 1` behind these bytes.
-fn clocks(alloc: Global, front: &[u8], count: usize) -> Result<Vec<u8>, AllocError> {
+/// These bytes, and so many times this line behind them.
+fn lengthened(
+    alloc: Global,
+    front: &[u8],
+    line: &[u8],
+    count: usize,
+) -> Result<Vec<u8>, AllocError> {
     let mut list = front.to_vec(alloc)?;
     for _ in 0..count {
-        list.extend_from_slice(b"clock 1\n")?;
+        list.extend_from_slice(line)?;
     }
     Ok(list)
 }
 
-/// These bytes, and so many line feeds behind them.
-fn padded(alloc: Global, front: &[u8], count: usize) -> Result<Vec<u8>, AllocError> {
-    let mut list = front.to_vec(alloc)?;
-    for _ in 0..count {
-        list.push(b'\n')?;
-    }
-    Ok(list)
-}
-
-/// Lists of one group of Clock.
-static OF_ONE: [&str; 7] = [
-    "clock 1",
-    "clock 1\r\n",
-    "clock 1\r",
-    "\tclock\t\t1 2 ",
-    "\n \r\nclock 1\n\n",
-    "version 2\nclock 1",
-    "version 2\r\n\nclock 1\n",
-];
-
-/// The rounds of a list.
-static FOUR: [Row; 4] = [
-    (Event::Clock, 26, 3, ""),
-    (Event::C222, 5, 4, ""),
-    (Event::Minx, 3, 0, ""),
-    ONE,
-];
-
-/// The rounds of a list of version 2.
-static FOUR_WITH_NAMES: [Row; 4] = [
-    (Event::C333, 2, 2, "Final"),
+/// Lists, and their rounds.
+static READ: [(&str, &[Row]); 13] = [
+    ("clock 1", &[ONE]),
+    ("clock 1\r\n", &[ONE]),
+    ("clock 1\r", &[ONE]),
+    ("\tclock\t\t1 2 ", &[ONE]),
+    ("\n \r\nclock 1\n\n", &[ONE]),
+    ("version 2\nclock 1", &[ONE]),
+    ("version 2\r\n\nclock 1\n", &[ONE]),
+    ("", &[]),
+    ("version 2", &[]),
+    ("version 2\n", &[]),
+    ("version 2\r\n\n", &[]),
     (
-        Event::C222,
-        1,
-        4,
-        "~ : 123456789012345678901234567890123456",
+        "clock 26 3\n222 5\nminx 3\nclock 1",
+        &[
+            (Event::Clock, 26, 3, ""),
+            (Event::C222, 5, 4, ""),
+            (Event::Minx, 3, 0, ""),
+            ONE,
+        ],
     ),
-    ONE,
-    (Event::Minx, 1, 0, "x"),
+    (
+        "version 2\n333 2 : Final\n222 1 4:\t~ : 123456789012345678901234567890123456\nclock 1\nminx 1: x ",
+        &[
+            (Event::C333, 2, 2, "Final"),
+            (
+                Event::C222,
+                1,
+                4,
+                "~ : 123456789012345678901234567890123456",
+            ),
+            ONE,
+            (Event::Minx, 1, 0, "x"),
+        ],
+    ),
 ];
-
-/// Lists of no round.
-static OF_NONE: [&str; 4] = ["", "version 2", "version 2\n", "version 2\r\n\n"];
 
 #[test]
 fn lists_name_rounds(rt: HostRuntime) -> Result<(), Fail> {
-    for list in &OF_ONE {
-        assert!(rt; reads(&rt, list.as_bytes(), Ok(&[ONE]))?, "{list}");
+    for (list, rounds) in &READ {
+        assert!(rt; reads(&rt, list.as_bytes(), Ok(rounds))?, "{list}");
     }
-    for list in &OF_NONE {
-        assert!(rt; reads(&rt, list.as_bytes(), Ok(&[]))?, "{list}");
-    }
-    assert!(rt; reads(&rt, b"clock 26 3\n222 5\nminx 3\nclock 1", Ok(&FOUR))?);
-    assert!(rt;
-        reads(
-            &rt,
-            b"version 2\n333 2 : Final\n222 1 4:\t~ : 123456789012345678901234567890123456\nclock 1\nminx 1: x ",
-            Ok(&FOUR_WITH_NAMES)
-        )?
-    );
     Ok(())
 }
 
@@ -224,42 +212,79 @@ fn lists_with_names_are_refused(rt: HostRuntime) -> Result<(), Fail> {
     Ok(())
 }
 
-#[test]
-fn long_lists(rt: HostRuntime) -> Result<(), Fail> {
-    let list = clocks(rt.alloc(), b"", 64)?;
-    assert!(rt; reads(&rt, &list, Ok(&[ONE; 64]))?);
-    let list = clocks(rt.alloc(), b"", 65)?;
-    let rounds = ListFault::Line {
-        number: 65,
-        cause: ListCause::Rounds,
-    };
-    assert!(rt; reads(&rt, &list, Err(rounds))?);
-    let list = padded(rt.alloc(), b"clock 1\n", 4088)?;
-    assert!(rt; reads(&rt, &list, Ok(&[ONE]))?);
-    let list = padded(rt.alloc(), b"clock 1\n", 4089)?;
-    assert!(rt; reads(&rt, &list, Err(ListFault::TooLong { limit: 4096 }))?);
-    let mut source = MemSource::new(list, 4000, vec![in rt.alloc(); 2]?);
-    assert_eq!(rt; read_rounds(&mut source).err(), Some(ListFault::Read));
-    Ok(())
+/// The front of a list, a line behind it, how often it stands there, and how many rounds the list has, if it has some.
+static LONG: [(&str, &str, usize, Result<usize, ListFault>); 8] = [
+    ("", "clock 1\n", 64, Ok(64)),
+    (
+        "",
+        "clock 1\n",
+        65,
+        Err(ListFault::Line {
+            number: 65,
+            cause: ListCause::Rounds,
+        }),
+    ),
+    ("clock 1\n", "\n", 4088, Ok(1)),
+    (
+        "clock 1\n",
+        "\n",
+        4089,
+        Err(ListFault::TooLong { limit: 4096 }),
+    ),
+    ("version 2\n", "clock 1\n", 256, Ok(256)),
+    (
+        "version 2\n",
+        "clock 1\n",
+        257,
+        Err(ListFault::Line {
+            number: 258,
+            cause: ListCause::Rounds,
+        }),
+    ),
+    ("version 2\n", "\n", 16_374, Ok(0)),
+    (
+        "version 2\n",
+        "\n",
+        16_375,
+        Err(ListFault::TooLong { limit: 16_384 }),
+    ),
+];
+
+/// Whether the list is read as so many rounds of one group of Clock.
+fn reads_clocks(
+    rt: &impl AllocGlobal,
+    list: &[u8],
+    wanted: Result<usize, ListFault>,
+) -> Result<bool, AllocError> {
+    match wanted {
+        Ok(count) => reads(rt, list, Ok(&vec![in rt.alloc(); ONE; count]?)),
+        Err(fault) => reads(rt, list, Err(fault)),
+    }
 }
 
 #[test]
-fn long_lists_of_version_2(rt: HostRuntime) -> Result<(), Fail> {
-    let list = clocks(rt.alloc(), b"version 2\n", 256)?;
-    assert!(rt; reads(&rt, &list, Ok(&[ONE; 256]))?);
-    let list = clocks(rt.alloc(), b"version 2\n", 257)?;
-    let rounds = ListFault::Line {
-        number: 258,
-        cause: ListCause::Rounds,
-    };
-    assert!(rt; reads(&rt, &list, Err(rounds))?);
-    let list = padded(rt.alloc(), b"version 2\n", 16_374)?;
-    assert!(rt; reads(&rt, &list, Ok(&[]))?);
-    let list = padded(rt.alloc(), b"version 2\n", 16_375)?;
-    assert!(rt; reads(&rt, &list, Err(ListFault::TooLong { limit: 16_384 }))?);
-    // the second part of the list fails
-    let mut source = MemSource::new(list, 4097, vec![in rt.alloc(); 2]?);
-    assert_eq!(rt; read_rounds(&mut source).err(), Some(ListFault::Read));
+fn long_lists(rt: HostRuntime) -> Result<(), Fail> {
+    for (front, line, count, wanted) in &LONG {
+        let list = lengthened(rt.alloc(), front.as_bytes(), line.as_bytes(), *count)?;
+        assert!(rt; reads_clocks(&rt, &list, *wanted)?, "{count}");
+    }
+    Ok(())
+}
+
+/// The front of a list, how many empty lines stand behind it, and how many bytes a call gives; the second fails.
+static FAILING: [(&str, usize, usize); 2] = [
+    ("clock 1\n", 4089, 4000),
+    ("version 2\n", 16_375, 4097),
+];
+
+#[test]
+fn lists_that_fail(rt: HostRuntime) -> Result<(), Fail> {
+    for (front, count, most) in &FAILING {
+        assert!(rt; 0 < *most);
+        let list = lengthened(rt.alloc(), front.as_bytes(), b"\n", *count)?;
+        let mut source = MemSource::new(list, *most, vec![in rt.alloc(); 2]?);
+        assert_eq!(rt; read_rounds(&mut source).err(), Some(ListFault::Read));
+    }
     Ok(())
 }
 

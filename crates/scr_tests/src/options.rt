@@ -1,6 +1,6 @@
 //! Words that give values, and words that give none.
 
-use scr_options::{OptionForm, OptionsFault, split_options};
+use scr_options::{OptionForm, OptionsFault, SplitOptions, split_options};
 use std::alloc::Global;
 use std::process::Abort;
 
@@ -23,26 +23,41 @@ fn gives<'w>(
     flag: bool,
     value: Option<&str>,
 ) {
-    let split = split_options(alloc, &FORMS, words);
-    assert!(rt; split.is_ok());
-    if let Ok(split) = split {
-        assert_eq!(rt; split.value("flag").is_some(), flag);
-        assert_eq!(rt; split.value("value"), value);
-        assert_eq!(rt; split.value("other"), None);
+    match split_options(alloc, &FORMS, words) {
+        Ok(split) => has(rt, &split, flag, value),
+        Err(_) => assert!(rt; false),
     }
 }
 
+/// Whether there are the flag, this value, and no other.
+fn has(rt: &impl Abort, split: &SplitOptions<'_>, flag: bool, value: Option<&str>) {
+    assert_eq!(rt; split.value("flag").is_some(), flag);
+    has_value(rt, split, "value", value);
+    has_value(rt, split, "other", None);
+}
+
+/// Whether an option has this value.
+fn has_value(rt: &impl Abort, split: &SplitOptions<'_>, name: &str, value: Option<&str>) {
+    assert_eq!(rt; split.value(name), value, "{name}");
+}
+
+/// Words, whether they give the flag, and the value that they give.
+static GIVEN: [(&[&str], bool, Option<&str>); 8] = [
+    (&[], false, None),
+    (&["--flag"], true, None),
+    (&["--value", "x", "--flag"], true, Some("x")),
+    (&["--flag", "--value=-x=y"], true, Some("-x=y")),
+    (&["--value", ""], false, Some("")),
+    (&["--value="], false, Some("")),
+    (&["--value==x"], false, Some("=x")),
+    (&["--value=--value=x"], false, Some("--value=x")),
+];
+
 #[test]
 fn values_given(rt: HostRuntime) {
-    let alloc = rt.alloc();
-    gives(&rt, alloc, &[], false, None);
-    gives(&rt, alloc, &["--flag"], true, None);
-    gives(&rt, alloc, &["--value", "x", "--flag"], true, Some("x"));
-    gives(&rt, alloc, &["--flag", "--value=-x=y"], true, Some("-x=y"));
-    gives(&rt, alloc, &["--value", ""], false, Some(""));
-    gives(&rt, alloc, &["--value="], false, Some(""));
-    gives(&rt, alloc, &["--value==x"], false, Some("=x"));
-    gives(&rt, alloc, &["--value=--value=x"], false, Some("--value=x"));
+    for (words, flag, value) in &GIVEN {
+        gives(&rt, rt.alloc(), words, *flag, *value);
+    }
 }
 
 /// Words that are refused.
@@ -63,9 +78,6 @@ static REFUSED: [[&str; 2]; 10] = [
 fn words_refused(rt: HostRuntime) {
     for words in &REFUSED {
         let split = split_options(rt.alloc(), &FORMS, words);
-        assert!(&rt; split.is_err());
-        if let Err(why) = split {
-            assert_eq!(&rt; why, OptionsFault::Usage);
-        }
+        assert_eq!(&rt; split.err(), Some(OptionsFault::Usage));
     }
 }

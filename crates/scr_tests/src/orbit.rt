@@ -2,7 +2,7 @@
 use scr_orbit::{PlaceTurn, Placed, are_twists, is_permutation};
 
 #[test]
-fn a_turn_and_the_tests(rt: HostRuntime) {
+fn a_turn(rt: HostRuntime) {
     let turn = PlaceTurn {
         places: [2, 0, 1],
         added: [1, 2, 0],
@@ -12,6 +12,10 @@ fn a_turn_and_the_tests(rt: HostRuntime) {
     assert_eq!(rt; turned.pieces(), [2, 0, 1]);
     assert_eq!(rt; turned.digits(), [0, 2, 1]);
     assert!(rt; turned.is_zero_sum(3) && !turned.is_zero_sum(2));
+}
+
+#[test]
+fn an_exchange(rt: HostRuntime) {
     let exchange = PlaceTurn {
         places: [1, 0],
         added: [0, 0],
@@ -20,8 +24,20 @@ fn a_turn_and_the_tests(rt: HostRuntime) {
         Placed::new([0, 1], [0, 0]).turned(&exchange, 1).pieces(),
         [1, 0]
     );
-    assert!(rt; is_permutation(&[0, 2, 1]) && are_twists(&[0, 2, 1], 3));
-    assert!(rt;
-        !is_permutation(&[0, 2, 2]) && !are_twists(&[0, 2, 2], 3) && !are_twists(&[3, 0], 3)
-    );
+}
+
+/// Lists, whether each is a permutation, and whether it is one of twists by thirds.
+static LISTS: [(&[u8], bool, bool); 3] = [
+    (&[0, 2, 1], true, true),
+    (&[0, 2, 2], false, false),
+    (&[3, 0], false, false),
+];
+
+#[test]
+fn tests_of_lists(rt: HostRuntime) {
+    for (list, is_list, has_sum) in &LISTS {
+        assert!(rt; list.len() <= 256);
+        assert_eq!(rt; is_permutation(list), *is_list);
+        assert_eq!(rt; are_twists(list, 3), *has_sum);
+    }
 }

@@ -2,6 +2,7 @@
 
 use scr_outside::*;
 use std::io;
+use std::process::Abort;
 use std::test::Fail;
 
 /// A reader that gives `a`, is interrupted, fails twice, gives `b`, and ends.
@@ -55,47 +56,93 @@ impl io::Write for Faltering {
     }
 }
 
+/// Pieces, and what writing each answers.
+type Writes<'a> = &'a [(&'a str, Result<(), Failed>)];
+
+/// How many bytes sinks have room for, how many they take a call at most, which calls fail, what writing answers, and
+/// what the sink holds then.
+static SINKS: [(usize, usize, &[u32], Writes<'static>, &str); 2] = [
+    (4, 9, &[], &[("hello", Err(Failed))], "hell"),
+    (
+        9,
+        2,
+        &[2],
+        &[("hello", Err(Failed)), ("y!", Ok(()))],
+        "hey!",
+    ),
+];
+
+/// Writing these pieces answers so, and then the sink holds this.
+fn takes(rt: &impl Abort, sink: &mut MemSink, writes: Writes<'_>, contents: &str) {
+    for (piece, wanted) in writes {
+        assert_eq!(rt; write_all(sink, piece.as_bytes()), *wanted);
+    }
+    assert_eq!(rt; sink.contents(), contents.as_bytes());
+}
+
 #[test]
 fn sinks_fail_where_they_are_told_to(rt: HostRuntime) -> Result<(), Fail> {
-    let mut small = MemSink::new(rt.alloc(), 4, 9, Vec::new(rt.alloc()))?;
-    assert_eq!(rt; write_all(&mut small, b"hello"), Err(Failed));
-    assert_eq!(rt; small.contents(), b"hell".as_slice());
-
-    let mut second = MemSink::new(rt.alloc(), 9, 2, vec![in rt.alloc(); 2]?)?;
-    assert_eq!(rt; write_all(&mut second, b"hello"), Err(Failed));
-    assert_eq!(rt; write_all(&mut second, b"y!"), Ok(()));
-    assert_eq!(rt; second.contents(), b"hey!".as_slice());
+    for (room, most, fails, writes, contents) in &SINKS {
+        assert!(rt; 0 < *most);
+        let mut sink = MemSink::new(rt.alloc(), *room, *most, fails.to_vec(rt.alloc())?)?;
+        takes(&rt, &mut sink, writes, contents);
+    }
     assert_eq!(rt; write_all(&mut NullSink::new(), b"ab"), Ok(()));
     Ok(())
+}
+
+/// Labels and texts, and what writing the line answers.
+static LINES: [(&str, &str, Result<(), Failed>); 3] = [
+    ("1. ", "R U2", Ok(())),
+    ("", "", Ok(())),
+    ("2. ", "F'", Err(Failed)),
+];
+
+/// Writing the lines above answers so.
+fn takes_lines(rt: &impl Abort, sink: &mut MemSink) {
+    for (label, text, wanted) in &LINES {
+        assert!(rt; label.len() < 10 && text.len() < 10);
+        assert_eq!(rt; write_line(sink, label, text), *wanted);
+    }
 }
 
 #[test]
 fn a_line_is_one_piece(rt: HostRuntime) -> Result<(), Fail> {
     let mut sink = MemSink::new(rt.alloc(), 99, 99, vec![in rt.alloc(); 3]?)?;
-    assert_eq!(rt; write_line(&mut sink, "1. ", "R U2"), Ok(()));
-    assert_eq!(rt; write_line(&mut sink, "", ""), Ok(()));
-    assert_eq!(rt; write_line(&mut sink, "2. ", "F'"), Err(Failed));
+    takes_lines(&rt, &mut sink);
     assert_eq!(rt; sink.contents(), b"1. R U2\n\n".as_slice());
     Ok(())
 }
+
+/// Each read of a source into a buffer of eight bytes answers this, and then this byte stands first in the buffer.
+fn gives<S: Source>(rt: &impl Abort, source: &mut S, reads: &[(Result<usize, Failed>, u8)]) {
+    let mut buffer = [0; 8];
+    for (wanted, byte) in reads {
+        assert_eq!(rt; source.read(&mut buffer), *wanted);
+        assert_eq!(rt; buffer[0], *byte);
+    }
+}
+
+/// Those of `abc` by two bytes a call, of which the second call fails, and whole.
+static READS_BY_TWO: [(Result<usize, Failed>, u8); 4] = [
+    (Ok(2), b'a'),
+    (Err(Failed), b'a'),
+    (Ok(1), b'c'),
+    (Ok(0), b'c'),
+];
+
+static READS_WHOLE: [(Result<usize, Failed>, u8); 2] = [(Ok(3), b'a'), (Ok(0), b'a')];
 
 #[test]
 fn sources_give_their_bytes(rt: HostRuntime) -> Result<(), Fail> {
     let bytes = b"abc".to_vec(rt.alloc())?;
     let mut memory = MemSource::new(bytes, 2, vec![in rt.alloc(); 2]?);
-    let mut slice = SliceSource::new(b"abc");
-    let mut buffer = [0; 8];
-    assert_eq!(rt; memory.read(&mut buffer), Ok(2));
-    assert_eq!(rt; memory.read(&mut buffer), Err(Failed));
-    assert_eq!(rt; memory.read(&mut buffer), Ok(1));
-    assert_eq!(rt; buffer[0], b'c');
-    assert_eq!(rt; memory.read(&mut buffer), Ok(0));
-    assert_eq!(rt; slice.read(&mut buffer), Ok(3));
-    assert_eq!(rt; slice.read(&mut buffer), Ok(0));
+    gives(&rt, &mut memory, &READS_BY_TWO);
+    gives(&rt, &mut SliceSource::new(b"abc"), &READS_WHOLE);
     Ok(())
 }
 
-/// What each read answers, and the byte that stands first in the buffer then.
+/// Those of the reader above.
 static READS: [(Result<usize, Failed>, u8); 7] = [
     (Ok(1), b'a'),
     (Err(Failed), b'a'),
@@ -121,13 +168,7 @@ static WRITES: [Result<usize, Failed>; 7] = [
 // would be a call behind, and one that asked again at an error would be ahead.
 #[test]
 fn adapters_pass_bytes_and_faults(rt: HostRuntime) {
-    let mut source = StdSource::new(Interrupted { calls: 0 });
-    let mut buffer = [0; 8];
-    for (wanted, byte) in &READS {
-        assert_eq!(rt; source.read(&mut buffer), *wanted);
-        assert_eq!(rt; buffer[0], *byte);
-    }
-
+    gives(&rt, &mut StdSource::new(Interrupted { calls: 0 }), &READS);
     let mut sink = StdSink::new(Faltering { calls: 0 });
     for wanted in &WRITES {
         assert_eq!(rt; sink.write(b"ab"), *wanted);

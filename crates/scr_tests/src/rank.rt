@@ -1,10 +1,13 @@
 //! Rows worked by hand.
 
+ghost use Rattle.std.specs.Prelude.{◌≤◌};
+
 use scr_rank::permutations::count_permutations;
 use scr_rank::{Choose, EvenPermRank, MixedRadix, Pairing8, PermRank, TwistRank};
+use std::process::Abort;
 
 #[test]
-fn rows(rt: HostRuntime) {
+fn rows_of_permutations(rt: HostRuntime) {
     assert_eq!(rt;
         (count_permutations(0), count_permutations(12)),
         (1, 479001600)
@@ -13,6 +16,10 @@ fn rows(rt: HostRuntime) {
     assert_eq!(rt; PermRank::<4>::unrank(22), [3, 2, 0, 1]);
     assert_eq!(rt; EvenPermRank::<4>::unrank(1), [0, 2, 3, 1]);
     assert_eq!(rt; EvenPermRank::<4>::rank(&[3, 2, 1, 0]), 11);
+}
+
+#[test]
+fn rows_of_digits(rt: HostRuntime) {
     assert_eq!(rt; TwistRank::<3, 3>::unrank(5), [2, 1, 0]);
     assert_eq!(rt;
         TwistRank::<12, 2>::unrank(1),
@@ -20,25 +27,36 @@ fn rows(rt: HostRuntime) {
     );
     assert_eq!(rt; TwistRank::<3, 12>::unrank(143), [11, 11, 2]);
     assert_eq!(rt; TwistRank::<3, 3>::rank(&[2, 1, 0]), 5);
+}
+
+#[test]
+fn rows_of_places_and_mixed_digits(rt: HostRuntime) {
     assert_eq!(rt; Choose::<4, 2>::unrank(5), [2, 3]);
     assert_eq!(rt; Choose::<4, 2>::rank(&[1, 3]), 4);
     assert_eq!(rt; MixedRadix::new([2, 3, 4]).unrank(22), [0, 2, 3]);
     assert_eq!(rt; MixedRadix::new([2, 3, 4]).rank(&[1, 2, 3]), 23);
 }
 
-// Each list of 1 to 7 pieces has the number that it is the list of.
+/// Each list of so many pieces has the number that it is the list of.
+fn round_trip<const N: usize>(rt: &impl Abort)
+    requires { N ≤ 12 }
+{
+    for number in 0..count_permutations(N) {
+        let number = u128::from(number);
+        let list = PermRank::<N>::unrank(number);
+        assert_eq!(rt; PermRank::<N>::rank(&list), number);
+    }
+}
+
 #[test]
 fn round_trips(rt: HostRuntime) {
-    macro_rules! round_trips {
-        ($($length:literal: $count:literal),*) => {
-            $(for number in 0..$count {
-                let number = u128::from(number);
-                let list = PermRank::<$length>::unrank(number);
-                assert_eq!(rt; PermRank::<$length>::rank(&list), number);
-            })*
-        };
-    }
-    round_trips!(1: 1_u32, 2: 2_u32, 3: 6_u32, 4: 24_u32, 5: 120_u32, 6: 720_u32, 7: 5040_u32);
+    round_trip::<1>(&rt);
+    round_trip::<2>(&rt);
+    round_trip::<3>(&rt);
+    round_trip::<4>(&rt);
+    round_trip::<5>(&rt);
+    round_trip::<6>(&rt);
+    round_trip::<7>(&rt);
 }
 
 #[test]

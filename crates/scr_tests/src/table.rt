@@ -178,19 +178,24 @@ fn expect_row<R: Abort + Threads + Sync>(
 {
     match DistanceTable::build(rt, alloc, TableName::Square, &Row(count), bound, 2) {
         Ok(table) => {
-            assert_eq!(rt; table.name(), TableName::Square);
             assert_eq!(rt; [table.bound(), table.positions()], [bound, count]);
-            assert_eq!(rt; table.distance(count - 1), greatest);
-            assert_eq!(rt;
-                table.descend(&Row(count), count - 1).len(),
-                greatest as usize
-            );
-            let counts = table.counts();
-            for distance in 0..25 {
-                assert_eq!(rt; counts[distance as usize], u32::from(distance <= greatest));
-            }
+            expect_distances(rt, &table, count, greatest);
         }
         Err(_) => assert!(rt; false, "{count} positions at bound {bound}"),
+    }
+}
+
+fn expect_distances(rt: &impl Abort, table: &DistanceTable, count: u32, greatest: u32)
+    requires some { 0 < count }
+    requires measures { Measures (row_coordinate count) table.now }
+{
+    assert_eq!(rt; table.name(), TableName::Square);
+    assert_eq!(rt; table.distance(count - 1), greatest);
+    let word = table.descend(&Row(count), count - 1);
+    assert_eq!(rt; word.len(), greatest as usize);
+    let counts = table.counts();
+    for distance in 0..25 {
+        assert_eq!(rt; counts[distance as usize], u32::from(distance <= greatest));
     }
 }
 
@@ -220,21 +225,23 @@ fn rows(rt: HostRuntime) {
 fn blocks_of_a_row(rt: HostRuntime) {
     for workers in [1, 2, 7, 64] {
         match DistanceTable::build(&rt, rt.alloc(), TableName::Square, &Row(21), 20, workers) {
-            Ok(table) => {
-                assert_eq!(rt; table.blocks().len(), 1);
-                assert_eq!(rt; &table.blocks()[0][..12], ROW_BYTES.as_slice());
-                assert_eq!(rt; table.deep(), &DEEP_ROW[..]);
-            }
+            Ok(table) => expect_blocks(&rt, &table),
             Err(_) => assert!(rt; false),
         }
     }
 }
 
-const ROW_BYTES: [u8; 12] = [
+fn expect_blocks(rt: &impl Abort, table: &DistanceTable) {
+    assert_eq!(rt; table.blocks().len(), 1);
+    assert_eq!(rt; &table.blocks()[0][..12], ROW_BYTES.as_slice());
+    assert_eq!(rt; table.deep(), &DEEP_ROW[..]);
+}
+
+static ROW_BYTES: [u8; 12] = [
     0x10, 0x32, 0x54, 0x76, 0x98, 0xba, 0xdc, 0xee, 0xee, 0xee, 0xfe, 0xff,
 ];
 
-const DEEP_ROW: [(u32, u8); 7] = [
+static DEEP_ROW: [(u32, u8); 7] = [
     (14, 14),
     (15, 15),
     (16, 16),
@@ -248,16 +255,21 @@ const DEEP_ROW: [(u32, u8); 7] = [
 fn a_circle(rt: HostRuntime) {
     match DistanceTable::build(&rt, rt.alloc(), TableName::Corners, &Circle, 20, 4) {
         Ok(table) => {
-            let counts = table.counts();
-            assert_eq!(rt; [counts[0], counts[1], table.distance(2)], [1, 20, 2]);
             assert_eq!(rt; table.descend(&Circle, 3).as_slice(), [0, 3].as_slice());
-            let tables = [&table, &table];
-            assert!(rt; table_named(&tables, TableName::Corners).is_some());
-            assert!(rt; table_named(&tables, TableName::Flips).is_none());
+            expect_circle(&rt, &table);
         }
         Err(_) => assert!(rt; false),
     }
     assert_eq!(rt; TableName::CornerSlice.text(), "cornerslice");
+}
+
+fn expect_circle(rt: &impl Abort, table: &DistanceTable) {
+    let counts = table.counts();
+    assert!(rt; table.positions() == SIZE);
+    assert_eq!(rt; [counts[0], counts[1], table.distance(2)], [1, 20, 2]);
+    let tables = [table, table];
+    assert!(rt; table_named(&tables, TableName::Corners).is_some());
+    assert!(rt; table_named(&tables, TableName::Flips).is_none());
 }
 
 /// States of the lamps, and how many turns each needs.

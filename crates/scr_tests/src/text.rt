@@ -11,38 +11,44 @@ static NUMBERS: [(u32, &str); 5] = [
     (u32::MAX, "4294967295"),
 ];
 
-/// Texts that are no number.
-static NO_NUMBERS: [&str; 9] = [
-    "",
-    "00",
-    "01",
-    "+1",
-    "-1",
-    "1 ",
-    "1\u{660}",
-    "4294967296",
-    "99999999999999999999",
-];
-
-/// Texts, and the number from 1 to 26 that each is, if any.
-static TO_26: [(&str, Option<u32>); 4] = [
-    ("1", Some(1)),
-    ("26", Some(26)),
-    ("0", None),
-    ("27", None),
+/// Texts, the numbers from and up to which they may be, and the number that each is, if any.
+static READ: [(&str, u32, u32, Option<u32>); 18] = [
+    ("0", 0, u32::MAX, Some(0)),
+    ("9", 0, u32::MAX, Some(9)),
+    ("10", 0, u32::MAX, Some(10)),
+    ("1000000", 0, u32::MAX, Some(1_000_000)),
+    ("4294967295", 0, u32::MAX, Some(u32::MAX)),
+    ("", 0, u32::MAX, None),
+    ("00", 0, u32::MAX, None),
+    ("01", 0, u32::MAX, None),
+    ("+1", 0, u32::MAX, None),
+    ("-1", 0, u32::MAX, None),
+    ("1 ", 0, u32::MAX, None),
+    ("1\u{660}", 0, u32::MAX, None),
+    ("4294967296", 0, u32::MAX, None),
+    ("99999999999999999999", 0, u32::MAX, None),
+    ("1", 1, 26, Some(1)),
+    ("26", 1, 26, Some(26)),
+    ("0", 1, 26, None),
+    ("27", 1, 26, None),
 ];
 
 #[test]
 fn numbers(rt: HostRuntime) {
     for (number, text) in &NUMBERS {
         assert_eq!(rt; decimal(*number).as_str(), *text);
-        assert_eq!(rt; number_within(text.as_bytes(), 0, u32::MAX), Some(*number));
     }
-    for text in &NO_NUMBERS {
-        assert_eq!(rt; number_within(text.as_bytes(), 0, u32::MAX), None);
+    for (text, least, greatest, number) in &READ {
+        assert_eq!(rt; number_within(text.as_bytes(), *least, *greatest), *number);
     }
-    for (text, number) in &TO_26 {
-        assert_eq!(rt; number_within(text.as_bytes(), 1, 26), *number);
+}
+
+/// Whether bytes are those of a text, or there is neither.
+fn are_of(bytes: Option<&[u8]>, text: Option<&str>) -> bool {
+    match (bytes, text) {
+        (Some(bytes), Some(text)) => bytes == text.as_bytes(),
+        (None, None) => true,
+        _ => false,
     }
 }
 
@@ -55,22 +61,23 @@ static LINES: [(&str, &str, Option<&str>); 5] = [
     ("a\r", "a", None),
 ];
 
+/// Texts, a place, and the word that stands there, if one does.
+static WORDS: [(&str, usize, Option<&str>); 5] = [
+    ("\tclock \t26  \u{fe} ", 0, Some("clock")),
+    ("\tclock \t26  \u{fe} ", 1, Some("26")),
+    ("\tclock \t26  \u{fe} ", 2, Some("\u{fe}")),
+    (" a\t", 1, None),
+    (" \t", 0, None),
+];
+
 #[test]
 fn lines_and_words(rt: HostRuntime) {
     for (text, line, rest) in &LINES {
         let (first, others) = split_line(text.as_bytes());
         assert_eq!(rt; first, line.as_bytes());
-        match (others, *rest) {
-            (Some(others), Some(rest)) => assert_eq!(rt; others, rest.as_bytes()),
-            (others, rest) => assert!(rt; others.is_none() && rest.is_none()),
-        }
+        assert!(rt; are_of(others, *rest));
     }
-    for (place, wanted) in ["clock", "26", "\u{fe}"].iter().enumerate() {
-        match word_at("\tclock \t26  \u{fe} ".as_bytes(), place) {
-            Some(word) => assert_eq!(rt; word, wanted.as_bytes()),
-            None => assert!(rt; false),
-        }
+    for (text, place, word) in &WORDS {
+        assert!(rt; are_of(word_at(text.as_bytes(), *place), *word));
     }
-    assert!(rt; word_at(b" a\t", 1).is_none());
-    assert!(rt; word_at(b" \t", 0).is_none());
 }

@@ -2,7 +2,6 @@ ghost use Rattle.std.specs.Prelude.{◌≡◌, ◌+◌, ◌^◌, ◌<◌, length
 
 use scr_words::{ChaChaWords, ListWords, Seed, SeedFault, Words, read_seed};
 use std::process::Abort;
-use std::test::Fail;
 
 const ZEROS: &str = "0000000000000000000000000000000000000000000000000000000000000000";
 
@@ -16,25 +15,33 @@ fn expect_words<W: Words>(rt: &impl Abort, words: &mut W, expected: &[u32])
     }
 }
 
+/// Texts, and the seeds that they are, or why they are none.
+static SEEDS: [(&str, Result<Seed, SeedFault>); 6] = [
+    (ZEROS, Ok(Seed([0; 32]))),
+    (
+        "1fA00000000000000000000000000000000000000000000000000000000000eF",
+        Ok(Seed([
+            0x1f, 0xa0, 0, 0, 0, 0, 0, 0, 0, 0, 0, 0, 0, 0, 0, 0, 0, 0, 0, 0, 0, 0, 0, 0, 0, 0, 0,
+            0, 0, 0, 0, 0xef,
+        ])),
+    ),
+    ("abc", Err(SeedFault::Length { got: 3 })),
+    ("", Err(SeedFault::Length { got: 0 })),
+    (
+        "000000000000000000000000000000000000000000000000000000000000000g",
+        Err(SeedFault::Digit { place: 63 }),
+    ),
+    (
+        "0g00000000000000000000000000000000000000000000000000000000000g00",
+        Err(SeedFault::Digit { place: 1 }),
+    ),
+];
+
 #[test]
-fn seeds_of_texts(rt: HostRuntime) -> Result<(), Fail> {
-    assert_eq!(rt; read_seed(ZEROS), Ok(Seed([0; 32])));
-    assert_eq!(rt; read_seed("abc"), Err(SeedFault::Length { got: 3 }));
-    assert_eq!(rt; read_seed(""), Err(SeedFault::Length { got: 0 }));
-    assert_eq!(rt;
-        read_seed("000000000000000000000000000000000000000000000000000000000000000g"),
-        Err(SeedFault::Digit { place: 63 })
-    );
-    assert_eq!(rt;
-        read_seed("0g00000000000000000000000000000000000000000000000000000000000g00"),
-        Err(SeedFault::Digit { place: 1 })
-    );
-    let mixed = read_seed("1fA00000000000000000000000000000000000000000000000000000000000eF");
-    let seed = mixed.ok().ok_or("64 digits")?;
-    assert_eq!(rt; seed.0[0], 0x1f);
-    assert_eq!(rt; seed.0[1], 0xa0);
-    assert_eq!(rt; seed.0[31], 0xef);
-    Ok(())
+fn seeds_of_texts(rt: HostRuntime) {
+    for (text, seed) in &SEEDS {
+        assert_eq!(rt; read_seed(text), *seed, "{text}");
+    }
 }
 
 // The first block is RFC 8439's, appendix A.1, vector 1, and the second begins as vector 2; the

@@ -6,6 +6,7 @@ use scr_workers::{Board, Gate, Jobs, OpenGate, run_chunks, run_claims};
 use std::process::Abort;
 use std::sync::atomic::{AtomicU64, Ordering};
 use std::test::Fail;
+use std::thread::Threads;
 
 /// Some slots, each answered by its square.
 #[derive(Drop)]
@@ -25,32 +26,51 @@ impl Jobs for Squares {
     }
 }
 
-#[test]
-fn three_slots_by_two_workers(rt: HostRuntime) -> Result<(), Fail> {
-    let squares = Squares { slots: 3 };
-    let mut by_chunks = [None; 3];
-    run_chunks(&rt, &squares, &mut by_chunks, 2, &OpenGate);
-    assert_eq!(rt; by_chunks, [Some(0), Some(1), Some(4)]);
+/// The squares of 0, 1 and 2.
+static ANSWERS: [Option<u64>; 3] = [Some(0), Some(1), Some(4)];
 
-    let board = Board::new(rt.alloc(), 2, 3)?;
-    assert_eq!(rt; board.lanes().len(), 2);
-    let mut by_claims = [None; 3];
-    let after = run_claims(&rt, board, &squares, &mut by_claims, &OpenGate);
-    assert_eq!(rt; by_claims, by_chunks);
-    let seated = after.lanes().iter().filter(|lane| lane.seat().is_some());
+fn expect_chunks<R: Abort + Threads + Sync>(rt: &R) {
+    let mut out = [None; 3];
+    run_chunks(rt, &Squares { slots: 3 }, &mut out, 2, &OpenGate);
+    assert_eq!(rt; out, ANSWERS);
+}
+
+fn expect_lanes(rt: &impl Abort, board: &Board<u64>) {
+    let seated = board.lanes().iter().filter(|lane| lane.seat().is_some());
     assert_eq!(rt; seated.count(), 1);
-    for lane in after.lanes() {
+    for lane in board.lanes() {
         assert!(rt; lane.own().is_empty());
     }
+}
+
+#[test]
+fn three_slots_by_two_workers(rt: HostRuntime) -> Result<(), Fail> {
+    expect_chunks(&rt);
+    let board = Board::new(rt.alloc(), 2, 3)?;
+    assert_eq!(rt; board.lanes().len(), 2);
+    let mut out = [None; 3];
+    let after = run_claims(&rt, board, &Squares { slots: 3 }, &mut out, &OpenGate);
+    assert_eq!(rt; out, ANSWERS);
+    expect_lanes(&rt, &after);
     Ok(())
 }
 
 /// How many slots passed their gate, how many were answered, and whether one worker ever had these two out of step.
-#[derive(Drop)]
 struct Steps {
     passed: AtomicU64,
     answered: AtomicU64,
     is_late: AtomicU64,
+}
+
+// By hand, so that the proof of whoever lets one go meets one call, and not the letting go of each of its parts.
+impl Drop for Steps {
+    fn drop(self) {
+        let Steps {
+            passed: _,
+            answered: _,
+            is_late: _,
+        } = self;
+    }
 }
 
 impl Steps {
@@ -91,20 +111,26 @@ impl<'a> Jobs for Counted<'a> {
     }
 }
 
+fn expect_steps(rt: &impl Abort, steps: &Steps) {
+    assert_eq!(rt; steps.passed.load(Ordering::SeqCst), 5);
+    assert_eq!(rt; steps.is_late.load(Ordering::SeqCst), 0);
+}
+
+fn expect_steps_of_chunks<R: Abort + Threads + Sync>(rt: &R) {
+    let steps = Steps::new();
+    let mut out = [None; 5];
+    run_chunks(rt, &Counted { steps: &steps }, &mut out, 1, &steps);
+    expect_steps(rt, &steps);
+}
+
 // One worker passes the gate of each slot, does its job, and goes on to the next.
 #[test]
 fn a_gate_before_each_job(rt: HostRuntime) -> Result<(), Fail> {
-    let by_chunks = Steps::new();
-    let mut out = [None; 5];
-    run_chunks(&rt, &Counted { steps: &by_chunks }, &mut out, 1, &by_chunks);
-
-    let by_claims = Steps::new();
+    expect_steps_of_chunks(&rt);
     let board = Board::new(rt.alloc(), 1, 5)?;
-    let jobs = Counted { steps: &by_claims };
-    run_claims(&rt, board, &jobs, &mut out, &by_claims);
-    for steps in [&by_chunks, &by_claims] {
-        assert_eq!(rt; steps.passed.load(Ordering::SeqCst), 5);
-        assert_eq!(rt; steps.is_late.load(Ordering::SeqCst), 0);
-    }
+    let steps = Steps::new();
+    let mut out = [None; 5];
+    run_claims(&rt, board, &Counted { steps: &steps }, &mut out, &steps);
+    expect_steps(&rt, &steps);
     Ok(())
 }
