@@ -85,11 +85,14 @@ fn scrambles_of_a_stream(rt: HostRuntime) {
     }
 }
 
+/// Lists of words, so many attempts a turn, and the scrambles that they give.
+static LISTS: [([u32; 3], u32, &str); 2] = [(ACCEPTED, 1, FROM_LAST), (REFUSED, 2, FROM_FIRST)];
+
 #[test]
 fn attempts_of_a_list(rt: HostRuntime) {
-    for (list, attempts, wanted) in [(ACCEPTED, 1, FROM_LAST), (REFUSED, 2, FROM_FIRST)] {
-        assert!(rt; attempts <= 1000000);
-        assert!(rt; gives::<_, 5>(&mut ListWords::new(&list), attempts, wanted));
+    for (list, attempts, wanted) in &LISTS {
+        assert!(rt; *attempts <= 1000000);
+        assert!(rt; gives::<_, 5>(&mut ListWords::new(list), *attempts, wanted));
     }
     let refused = big_cube::<_, 5>(&mut ListWords::new(&REFUSED), 1).err();
     assert_eq!(rt; refused, Some(DrawLimit { words: 3 }));

@@ -1,9 +1,11 @@
 //! States that are known from elsewhere.
 
 use crate::numbered::is_number;
+use crate::read;
 use scr_cube::{Corners222, Cube, CubeNumbers, Numbers222, PowerTurned};
 use scr_draw::Numbering;
-use scr_notation::{Event, parse};
+use scr_notation::Event;
+use std::alloc::{AllocError, Global};
 use std::test::Fail;
 
 const IN_PLACE: [u8; 8] = [0, 1, 2, 3, 4, 5, 6, 7];
@@ -65,60 +67,74 @@ fn known_corners(rt: HostRuntime) {
     assert!(rt; Numbers222.count() == 3674160);
 }
 
-// A flipped edge, a twisted corner, two exchanged corners, a corner twice.
+const FLIPPED: [u8; 12] = [1, 0, 0, 0, 0, 0, 0, 0, 0, 0, 0, 0];
+
+const TWISTED: [u8; 8] = [1, 0, 0, 0, 0, 0, 0, 0];
+
+const EXCHANGED: [u8; 8] = [1, 0, 2, 3, 4, 5, 6, 7];
+
+const TWICE: [u8; 8] = [0, 0, 2, 3, 4, 5, 6, 7];
+
+/// Corners, twists, edges and flips of no cube: a flipped edge, a twisted corner, two exchanged corners, and a corner
+/// twice.
+static UNREACHED: [([u8; 8], [u8; 8], [u8; 12], [u8; 12]); 4] = [
+    (IN_PLACE, [0; 8], EDGES_IN_PLACE, FLIPPED),
+    (IN_PLACE, TWISTED, EDGES_IN_PLACE, [0; 12]),
+    (EXCHANGED, [0; 8], EDGES_IN_PLACE, [0; 12]),
+    (TWICE, [0; 8], EDGES_IN_PLACE, [0; 12]),
+];
+
 #[test]
 fn what_no_turns_reach(rt: HostRuntime) {
-    let flipped = [1, 0, 0, 0, 0, 0, 0, 0, 0, 0, 0, 0];
-    assert!(rt; Cube::from_lists(IN_PLACE, [0; 8], EDGES_IN_PLACE, flipped).is_none());
-    let twisted = [1, 0, 0, 0, 0, 0, 0, 0];
-    assert!(rt; Cube::from_lists(IN_PLACE, twisted, EDGES_IN_PLACE, [0; 12]).is_none());
-    let exchanged = [1, 0, 2, 3, 4, 5, 6, 7];
-    assert!(rt; Cube::from_lists(exchanged, [0; 8], EDGES_IN_PLACE, [0; 12]).is_none());
-    let twice = [0, 0, 2, 3, 4, 5, 6, 7];
-    assert!(rt; Cube::from_lists(twice, [0; 8], EDGES_IN_PLACE, [0; 12]).is_none());
+    for (corners, twists, edges, flips) in &UNREACHED {
+        assert!(rt; Cube::from_lists(*corners, *twists, *edges, *flips).is_none());
+    }
     assert!(rt; Corners222::from_lists([1, 0, 2, 3, 4, 5, 6], [0; 7]).is_some());
     assert!(rt; Corners222::from_lists([1, 0, 2, 3, 4, 5, 6], [1; 7]).is_none());
 }
 
 // The word leads to the superflip, and with a wide turn it is no scramble.
 #[test]
-fn scrambles_played(rt: HostRuntime) -> Result<(), Fail> {
+fn scrambles_played(rt: HostRuntime) {
     let text = "U R2 F B R B2 R U2 L B2 R U' D' R2 F R' L B2 U2 F2";
-    let scramble = parse(Event::C333, text)?;
+    let scramble = read::scramble(&rt, Event::C333, text);
     let superflip = Cube::solved().play(&scramble);
     assert!(rt; superflip == Cube::from_lists(IN_PLACE, [0; 8], EDGES_IN_PLACE, [1; 12]));
     assert!(rt; Corners222::solved().play(&scramble).is_none());
-    let small = Corners222::solved().play(&parse(Event::C222, "R U F'")?);
+    let small = Corners222::solved().play(&read::scramble(&rt, Event::C222, "R U F'"));
     let turned = Corners222::solved().turn(1, 1).turn(0, 1).turn(2, 3);
     assert!(rt; small == Some(turned));
-    Ok(())
 }
 
-// How many cubes need 0, 1, 2 and 3 turns.
-#[test]
-fn distances(rt: HostRuntime) -> Result<(), Fail> {
-    let mut seen = Vec::new(rt.alloc());
-    let mut level = Vec::new(rt.alloc());
-    let mut counts = Vec::new(rt.alloc());
-    seen.push(Cube::solved())?;
-    level.push(Cube::solved())?;
-    counts.push(level.len())?;
-    for _distance in 1..4 {
-        let mut next = Vec::new(rt.alloc());
-        for cube in &level {
-            for face in 0..6 {
-                for amount in 1..4 {
-                    let turned = cube.turn(face, amount);
-                    if !seen.contains(&turned) {
-                        seen.push(turned)?;
-                        next.push(turned)?;
-                    }
+/// The cubes that one turn more leads to, of those that were not seen before.
+fn farther(alloc: Global, level: &[Cube], seen: &mut Vec<Cube>) -> Result<Vec<Cube>, AllocError> {
+    let mut next = Vec::new(alloc);
+    for cube in level {
+        for face in 0..6 {
+            for amount in 1..4 {
+                let turned = cube.turn(face, amount);
+                if !seen.contains(&turned) {
+                    seen.push(turned)?;
+                    next.push(turned)?;
                 }
             }
         }
-        counts.push(next.len())?;
-        level = next;
     }
-    assert_eq!(rt; counts.as_slice(), [1, 18, 243, 3240].as_slice());
+    Ok(next)
+}
+
+/// How many cubes need 1, 2 and 3 turns.
+static COUNTS: [usize; 3] = [18, 243, 3240];
+
+#[test]
+fn distances(rt: HostRuntime) -> Result<(), Fail> {
+    let mut seen = Vec::new(rt.alloc());
+    seen.push(Cube::solved())?;
+    let mut level = seen.clone()?;
+    assert_eq!(rt; level.len(), 1);
+    for count in &COUNTS {
+        level = farther(rt.alloc(), &level, &mut seen)?;
+        assert_eq!(rt; level.len(), *count);
+    }
     Ok(())
 }

@@ -3,10 +3,10 @@
 use crate::read;
 use scr_cube::{Cube, CubeNumbers, PowerTurned};
 use scr_draw::{Numbering, Permit};
-use scr_notation::{Event, print};
+use scr_notation::{Event, Scramble, print};
 use scr_stages::StageTables;
 use scr_twophase::{DrawFewest, PruneTables, scramble_333fm};
-use std::test::Fail;
+use std::process::Abort;
 
 /// A known word to the superflip, of 20 turns.
 const SUPERFLIP: &str = "U R2 F B R B2 R U2 L B2 R U' D' R2 F R' L B2 U2 F2";
@@ -26,23 +26,32 @@ static SCRAMBLES: [(&str, u32, usize); 9] = [
     (SUPERFLIP, 2000, 58),
 ];
 
-#[test]
-fn scrambles(rt: HostRuntime) -> Result<(), Fail> {
-    let prune = PruneTables::build(&rt, rt.alloc(), 1)?;
-    let stages = StageTables::build(&rt, rt.alloc(), 1)?;
+/// The scramble has its frames, so many turns at most, and this text where these are fewer than 28.
+fn is_framed(rt: &impl Abort, scramble: &Scramble, most: usize, word: &str) {
+    let text = print(scramble);
+    assert!(rt; text.as_str().starts_with("R' U' F") && text.as_str().ends_with("R' U' F"));
+    assert!(rt; scramble.turns().len() >= 6 && scramble.turns().len() <= most);
+    if most < 28 {
+        assert_eq!(rt; text.as_str(), word);
+    }
+}
+
+/// The scrambles above are made so.
+fn are_made(rt: &impl Abort, prune: &PruneTables, stages: &StageTables) {
     for (word, tries, most) in &SCRAMBLES {
-        let cube = read::cube(&rt, word);
-        let scramble = scramble_333fm(&prune, &stages, &cube, *tries);
-        let text = print(&scramble);
-        assert!(rt; text.as_str().starts_with("R' U' F") && text.as_str().ends_with("R' U' F"));
-        assert!(rt; scramble.turns().len() >= 6 && scramble.turns().len() <= *most);
+        let cube = read::cube(rt, word);
+        let scramble = scramble_333fm(prune, stages, &cube, *tries);
+        is_framed(rt, &scramble, *most, word);
         assert!(rt; Cube::solved().play(&scramble) == Some(cube));
         assert!(rt; scramble.event() == Event::Fm333);
-        if *most < 28 {
-            assert_eq!(rt; text.as_str(), *word);
-        }
     }
-    Ok(())
+}
+
+#[test]
+fn scrambles(rt: HostRuntime) {
+    let prune = PruneTables::build(&rt, rt.alloc(), 1).expect(&rt, "tables");
+    let stages = StageTables::build(&rt, rt.alloc(), 1).expect(&rt, "tables");
+    are_made(&rt, &prune, &stages);
 }
 
 // The same numbers and minima as of the 3x3x3.

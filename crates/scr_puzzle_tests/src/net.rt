@@ -8,7 +8,6 @@ use scr_net::{Net, of_corners, of_cube, write_net};
 use scr_notation::{Event, Scramble};
 use scr_outside::MemSink;
 use std::process::Abort;
-use std::test::Fail;
 
 /// The net of a solved cube after a scramble.
 fn after<const SIDE: usize>(rt: &impl Abort, scramble: &Scramble) -> Net<SIDE>
@@ -24,6 +23,17 @@ fn write_after<const SIDE: usize>(rt: &impl Abort, out: &mut MemSink, scramble: 
     requires { IsSide SIDE }
 {
     assert!(rt; write_net(out, &after::<SIDE>(rt, scramble)).is_ok());
+}
+
+/// Writes the net of a solved cube of an event after a scramble.
+fn write_of(rt: &impl Abort, out: &mut MemSink, event: Event, scramble: &Scramble) {
+    match event {
+        Event::C222 => write_after::<2>(rt, out, scramble),
+        Event::C333 => write_after::<3>(rt, out, scramble),
+        Event::C555 => write_after::<5>(rt, out, scramble),
+        Event::C666 => write_after::<6>(rt, out, scramble),
+        _ => write_after::<7>(rt, out, scramble),
+    }
 }
 
 /// Events, turns, and the net of a solved cube after them.
@@ -164,20 +174,14 @@ RRRLBBB RRRDDDD FFFUUUU LLBBDDD
 ];
 
 #[test]
-fn known_nets(rt: HostRuntime) -> Result<(), Fail> {
+fn known_nets(rt: HostRuntime) {
     for (event, turns, net) in &NETS {
-        let mut out = MemSink::new(rt.alloc(), 4096, 4096, Vec::new(rt.alloc()))?;
-        let scramble = read::scramble(&rt, *event, turns);
-        match *event {
-            Event::C222 => write_after::<2>(&rt, &mut out, &scramble),
-            Event::C333 => write_after::<3>(&rt, &mut out, &scramble),
-            Event::C555 => write_after::<5>(&rt, &mut out, &scramble),
-            Event::C666 => write_after::<6>(&rt, &mut out, &scramble),
-            _ => write_after::<7>(&rt, &mut out, &scramble),
-        }
+        let mut out = MemSink::new(rt.alloc(), 4096, 4096, Vec::new(rt.alloc())).expect(
+            &rt, "a sink",
+        );
+        write_of(&rt, &mut out, *event, &read::scramble(&rt, *event, turns));
         assert_eq!(&rt; out.contents(), net.as_bytes());
     }
-    Ok(())
 }
 
 // The nets by pieces, a turn that no cube of the size has, and a single letter.

@@ -3,6 +3,7 @@
 use crate::read;
 use scr_notation::Event;
 use scr_picture::Picture;
+use std::process::Abort;
 
 /// Events, turns, and the picture that they make of a solved puzzle.
 static PICTURES: [(Event, &str, &str); 23] = [
@@ -116,12 +117,17 @@ static PICTURES: [(Event, &str, &str); 23] = [
     (Event::Sq1, "(3,0)", "33b00811922ac44d55e66f77-"),
 ];
 
+/// The turns make this picture of a solved puzzle.
+fn make(rt: &impl Abort, event: Event, turns: &str, letters: &str) {
+    let scramble = read::scramble(rt, event, turns);
+    let picture = Picture::of(&scramble).expect(rt, turns);
+    assert_eq!(rt; picture.letters(), letters);
+}
+
 #[test]
 fn known_pictures(rt: HostRuntime) {
     for (event, turns, letters) in &PICTURES {
-        let scramble = read::scramble(&rt, *event, turns);
-        let picture = Picture::of(&scramble).expect(&rt, turns);
-        assert_eq!(&rt; picture.letters(), *letters);
+        make(&rt, *event, turns, letters);
     }
     // A corner would lie across the cut.
     assert!(rt; Picture::of(&read::scramble(&rt, Event::Sq1, "(2,0)")).is_none());

@@ -1,10 +1,10 @@
 //! States of a Pyraminx that are known from elsewhere.
 
 use crate::numbered::is_number;
+use crate::read;
 use scr_draw::Numbering;
-use scr_notation::{Event, parse};
+use scr_notation::Event;
 use scr_tetra::{PowerTurned, PyramNumbers, Pyraminx, Tetraminx, TetraminxNumbers};
-use std::test::Fail;
 
 const IN_PLACE: [u8; 6] = [0, 1, 2, 3, 4, 5];
 
@@ -33,29 +33,32 @@ fn known_states(rt: HostRuntime) {
     assert!(rt; Pyraminx::solved().is_solved() && !up.is_solved());
 }
 
-// A flipped edge, two exchanged edges, an edge twice, an axial piece and a tip turned by three thirds.
+/// Edges, flips, axial pieces and tips of no state: a flipped edge, two exchanged edges, an edge twice, an axial piece
+/// and a tip turned by three thirds.
+static UNREACHED: [([u8; 6], [u8; 6], [u8; 4], [u8; 4]); 5] = [
+    (IN_PLACE, [1, 0, 0, 0, 0, 0], [0; 4], [0; 4]),
+    ([1, 0, 2, 3, 4, 5], [0; 6], [0; 4], [0; 4]),
+    ([0, 0, 2, 3, 4, 5], [0; 6], [0; 4], [0; 4]),
+    (IN_PLACE, [0; 6], [3, 0, 0, 0], [0; 4]),
+    (IN_PLACE, [0; 6], [0; 4], [0, 0, 3, 0]),
+];
+
 #[test]
 fn what_no_turns_reach(rt: HostRuntime) {
-    let flipped = [1, 0, 0, 0, 0, 0];
-    assert!(rt; Pyraminx::from_lists(IN_PLACE, flipped, [0; 4], [0; 4]).is_none());
-    let exchanged = [1, 0, 2, 3, 4, 5];
-    assert!(rt; Pyraminx::from_lists(exchanged, [0; 6], [0; 4], [0; 4]).is_none());
-    let twice = [0, 0, 2, 3, 4, 5];
-    assert!(rt; Pyraminx::from_lists(twice, [0; 6], [0; 4], [0; 4]).is_none());
-    assert!(rt; Pyraminx::from_lists(IN_PLACE, [0; 6], [3, 0, 0, 0], [0; 4]).is_none());
-    assert!(rt; Pyraminx::from_lists(IN_PLACE, [0; 6], [0; 4], [0, 0, 3, 0]).is_none());
+    for (edges, flips, axials, tips) in &UNREACHED {
+        assert!(rt; Pyraminx::from_lists(*edges, *flips, *axials, *tips).is_none());
+    }
 }
 
 #[test]
-fn scrambles_played(rt: HostRuntime) -> Result<(), Fail> {
-    let text = "R' L R L' U L' U' L u b'";
-    let scramble = parse(Event::Pyram, text)?;
+fn scrambles_played(rt: HostRuntime) {
+    let scramble = read::scramble(&rt, Event::Pyram, "R' L R L' U L' U' L u b'");
     let flips = [1, 1, 0, 0, 0, 0];
     let played = Pyraminx::solved().play(&scramble);
     assert!(rt; played == Pyraminx::from_lists(IN_PLACE, flips, [0; 4], [1, 0, 0, 2]));
     assert!(rt; Tetraminx::solved().play(&scramble).is_none());
-    let large = Pyraminx::solved().play(&parse(Event::Pyram, "B L' r")?);
+    let large = Pyraminx::solved().play(&read::scramble(&rt, Event::Pyram, "B L' r"));
     assert!(rt; large == Some(Pyraminx::solved().turn(3, 1).turn(1, 2).tip(2, 1)));
-    assert!(rt; Pyraminx::solved().play(&parse(Event::C222, "U")?).is_none());
-    Ok(())
+    let other = read::scramble(&rt, Event::C222, "U");
+    assert!(rt; Pyraminx::solved().play(&other).is_none());
 }

@@ -10,14 +10,13 @@ use scr_small::{
     scramble_222, scramble_pyram, scramble_skewb,
 };
 use scr_solver_laws::small as solver_laws;
-use scr_table::TableName;
+use scr_table::{DistanceTable, TableName};
 use scr_tetra::{PyramNumbers, Pyraminx, Skewb, SkewbNumbers, TetraminxNumbers};
 use scr_words::{ChaChaWords, ListWords, Seed, Words};
 use std::process::Abort;
-use std::test::Fail;
 
 /// Numbers of 2x2x2s, how many turns each needs, and its scramble.
-const CUBES: [(u32, u32, &str); 4] = [
+static CUBES: [(u32, u32, &str); 4] = [
     (0, 0, ""),
     (1574640, 1, "U"),
     (3015702, 9, "R2 U R' F U2 F' U R U"),
@@ -25,7 +24,7 @@ const CUBES: [(u32, u32, &str); 4] = [
 ];
 
 /// Numbers of Pyraminxes, how many turns each needs, and its scramble.
-const PYRAMINXES: [(u32, u32, &str); 6] = [
+static PYRAMINXES: [(u32, u32, &str); 6] = [
     (0, 0, ""),
     (55, 2, "u b'"),
     (15116625, 1, "U"),
@@ -35,10 +34,10 @@ const PYRAMINXES: [(u32, u32, &str); 6] = [
 ];
 
 /// The words of number 55.
-const TWO_TIPS: [u32; 3] = [55, 0, 0];
+static TWO_TIPS: [u32; 3] = [55, 0, 0];
 
 /// Numbers of Skewbs, how many turns each needs, and its scramble.
-const SKEWBS: [(u32, u32, &str); 6] = [
+static SKEWBS: [(u32, u32, &str); 6] = [
     (0, 0, ""),
     (9423, 1, "B"),
     (1718795, 2, "B U"),
@@ -48,16 +47,16 @@ const SKEWBS: [(u32, u32, &str); 6] = [
 ];
 
 /// The words of number 9423.
-const AFTER_B: [u32; 3] = [9423, 0, 0];
+static AFTER_B: [u32; 3] = [9423, 0, 0];
 
 /// A list of no words, whose words are zeros.
 const NO_WORDS: [u32; 0] = [];
 
 /// The number of the state after U.
-const AFTER_U: [u32; 3] = [1574640, 0, 0];
+static AFTER_U: [u32; 3] = [1574640, 0, 0];
 
 /// The least number that is refused, then the greatest that is accepted.
-const LAST: [u32; 6] = [
+static LAST: [u32; 6] = [
     0xfff1_c980,
     0xffff_ffff,
     0xffff_ffff,
@@ -148,87 +147,118 @@ fn expect_listed<P: Numbering + Permit<P::State>>(
 }
 
 #[test]
-fn scrambles_of_222(rt: HostRuntime) -> Result<(), Fail> {
-    let tables = SmallTables::build(&rt, rt.alloc(), Event::C222, 1)?;
+fn scrambles_of_222(rt: HostRuntime) {
+    let tables = SmallTables::build(&rt, rt.alloc(), Event::C222, 1).expect(&rt, "tables");
     assert!(rt;
         tables.table(TableName::Corners).is_some() && tables.table(TableName::Flips).is_none()
     );
     scrambled_cubes(&rt, &tables, &CUBES);
-    Ok(())
 }
 
 /// The 2x2x2's table has 3,589 blocks and no deep position, whoever builds it.
 #[test]
-fn blocks_of_222(rt: HostRuntime) -> Result<(), Fail> {
-    let one = SmallTables::build(&rt, rt.alloc(), Event::C222, 1)?;
+fn blocks_of_222(rt: HostRuntime) {
+    let one = SmallTables::build(&rt, rt.alloc(), Event::C222, 1).expect(&rt, "tables");
     for workers in [2, 7, 64] {
-        let more = SmallTables::build(&rt, rt.alloc(), Event::C222, workers)?;
-        if let (Some(one), Some(more)) = (
+        let more = SmallTables::build(&rt, rt.alloc(), Event::C222, workers).expect(&rt, "tables");
+        match (
             one.table(TableName::Corners),
             more.table(TableName::Corners),
         ) {
-            assert_eq!(rt; [one.blocks().len(), one.deep().len()], [3589, 0]);
-            assert!(rt; one.blocks() == more.blocks() && one.deep() == more.deep());
-        } else {
-            assert!(rt; false);
+            (Some(one), Some(more)) => are_blocks(&rt, one, more),
+            _ => assert!(rt; false),
         }
     }
-    Ok(())
+}
+
+/// The tables are as that of a 2x2x2.
+fn are_blocks(rt: &impl Abort, one: &DistanceTable, more: &DistanceTable) {
+    assert_eq!(rt; [one.blocks().len(), one.deep().len()], [3589, 0]);
+    assert!(rt; one.blocks() == more.blocks() && one.deep() == more.deep());
 }
 
 #[test]
-fn draws_of_222(rt: HostRuntime) -> Result<(), Fail> {
-    let tables = SmallTables::build(&rt, rt.alloc(), Event::C222, 1)?;
-    let cube = Small222::new(&tables);
-    let mut zeros = ChaChaWords::new(&Seed([0; 32]), 0);
-    expect_draw(&rt, &cube, &mut zeros, 0, 1, Some(3015702));
-    expect_listed(&rt, &cube, &LAST, 0, 2, Some(3674159));
-    expect_listed(&rt, &cube, &LAST, 0, 1, None);
-    // the state after U needs one turn, and not four
-    expect_listed(&rt, &cube, &AFTER_U, 1, 1, Some(1574640));
-    expect_listed(&rt, &cube, &AFTER_U, 4, 1, None);
-    expect_listed(&rt, &cube, &NO_WORDS, 1, 5, None);
-    expect_listed(&rt, &cube, &NO_WORDS, 0, 1, Some(0));
+fn draws_of_222(rt: HostRuntime) {
+    let tables = SmallTables::build(&rt, rt.alloc(), Event::C222, 1).expect(&rt, "tables");
+    drawn_cubes(&rt, &tables);
+    fair_cubes(&tables);
+}
+
+/// Does nothing: draws of 2x2x2s are fair.
+fn fair_cubes(tables: &SmallTables)
+    requires { tables.now.event ≡ C222 }
+{
     solver_laws::measured::<Numbers222>();
-    laws::reached_by_table::<Numbers222>(&tables);
-    draw_laws::drawn_fairly(&cube);
-    Ok(())
+    laws::reached_by_table::<Numbers222>(tables);
+    draw_laws::drawn_fairly(&Small222::new(tables));
+}
+
+fn drawn_cubes(rt: &impl Abort, tables: &SmallTables)
+    requires { tables.now.event ≡ C222 }
+{
+    let cube = Small222::new(tables);
+    let mut zeros = ChaChaWords::new(&Seed([0; 32]), 0);
+    expect_draw(rt, &cube, &mut zeros, 0, 1, Some(3015702));
+    expect_listed(rt, &cube, &LAST, 0, 2, Some(3674159));
+    expect_listed(rt, &cube, &LAST, 0, 1, None);
+    // the state after U needs one turn, and not four
+    expect_listed(rt, &cube, &AFTER_U, 1, 1, Some(1574640));
+    expect_listed(rt, &cube, &AFTER_U, 4, 1, None);
+    expect_listed(rt, &cube, &NO_WORDS, 1, 5, None);
+    expect_listed(rt, &cube, &NO_WORDS, 0, 1, Some(0));
 }
 
 #[test]
-fn scrambles_of_pyram(rt: HostRuntime) -> Result<(), Fail> {
-    let tables = SmallTables::build(&rt, rt.alloc(), Event::Pyram, 2)?;
+fn scrambles_of_pyram(rt: HostRuntime) {
+    let tables = SmallTables::build(&rt, rt.alloc(), Event::Pyram, 2).expect(&rt, "tables");
     assert!(rt;
         tables.table(TableName::Pyramid).is_some() && tables.table(TableName::Flips).is_none()
     );
     scrambled_pyraminxes(&rt, &tables, &PYRAMINXES);
-    let pyraminx = SmallPyram::new(&tables);
-    expect_listed(&rt, &pyraminx, &TWO_TIPS, 2, 1, Some(55));
-    expect_listed(&rt, &pyraminx, &TWO_TIPS, 3, 1, None);
+    drawn_pyraminxes(&rt, &tables);
+    fair_pyraminxes(&tables);
+}
+
+/// Does nothing: draws of Pyraminxes are fair.
+fn fair_pyraminxes(tables: &SmallTables)
+    requires { tables.now.event ≡ Pyram }
+{
+    solver_laws::shown_by_parts::<TetraminxNumbers>();
+    laws::pyram_reached_by_table(tables);
+    draw_laws::drawn_fairly(&SmallPyram::new(tables));
+}
+
+fn drawn_pyraminxes(rt: &impl Abort, tables: &SmallTables)
+    requires { tables.now.event ≡ Pyram }
+{
+    let pyraminx = SmallPyram::new(tables);
+    expect_listed(rt, &pyraminx, &TWO_TIPS, 2, 1, Some(55));
+    expect_listed(rt, &pyraminx, &TWO_TIPS, 3, 1, None);
     assert_eq!(rt;
         print(&pyraminx.scramble(&PyramNumbers.state_at(55))).as_str(),
         "u b'"
     );
-    solver_laws::shown_by_parts::<TetraminxNumbers>();
-    laws::pyram_reached_by_table(&tables);
-    draw_laws::drawn_fairly(&pyraminx);
-    Ok(())
 }
 
 #[test]
-fn scrambles_of_skewb(rt: HostRuntime) -> Result<(), Fail> {
-    let tables = SmallTables::build(&rt, rt.alloc(), Event::Skewb, 7)?;
+fn scrambles_of_skewb(rt: HostRuntime) {
+    let tables = SmallTables::build(&rt, rt.alloc(), Event::Skewb, 7).expect(&rt, "tables");
     assert!(rt;
         tables.table(TableName::Skewb).is_some() && tables.table(TableName::Flips).is_none()
     );
     scrambled_skewbs(&rt, &tables, &SKEWBS);
-    let skewb = SmallSkewb::new(&tables);
-    expect_listed(&rt, &skewb, &AFTER_B, 1, 1, Some(9423));
-    expect_listed(&rt, &skewb, &AFTER_B, 2, 1, None);
+    drawn_skewbs(&rt, &tables);
+    solver_laws::shown_by_parts::<SkewbNumbers>();
+}
+
+fn drawn_skewbs(rt: &impl Abort, tables: &SmallTables)
+    requires { tables.now.event ≡ EventSkewb }
+{
+    let skewb = SmallSkewb::new(tables);
+    expect_listed(rt, &skewb, &AFTER_B, 1, 1, Some(9423));
+    expect_listed(rt, &skewb, &AFTER_B, 2, 1, None);
     assert_eq!(rt;
         print(&skewb.scramble(&SkewbNumbers.state_at(9423))).as_str(),
         "B"
     );
-    solver_laws::shown_by_parts::<SkewbNumbers>();
-    Ok(())
 }

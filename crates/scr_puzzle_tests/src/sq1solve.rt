@@ -5,7 +5,7 @@ use scr_notation::print;
 use scr_sq1::Sq1Numbers;
 use scr_sq1solve::{Sq1Tables, needs_sq1, scramble_sq1};
 use scr_table::{TableName, TableSet};
-use std::test::Fail;
+use std::process::Abort;
 
 /// Numbers of states, and their scrambles: solved; solved but for the equator; solved but for the edges 6 and 7.
 static STATES: [(u128, &str); 3] = [
@@ -22,25 +22,28 @@ static STATES: [(u128, &str); 3] = [
 static MINIMA: [(u128, u32); 2] = [(3_810_646_425_600, 0), (3_810_646_425_601, 4)];
 
 #[test]
-fn minima(rt: HostRuntime) -> Result<(), Fail> {
+fn minima(rt: HostRuntime) {
     for (number, needed) in &MINIMA {
         let state = Sq1Numbers.state_at(*number);
         for least in 0..5 {
             assert_eq!(rt; needs_sq1(&state, least), least <= *needed);
         }
     }
-    Ok(())
+}
+
+/// The states above have these scrambles.
+fn are_solved(rt: &impl Abort, tables: &Sq1Tables) {
+    for (number, scramble) in &STATES {
+        let state = Sq1Numbers.state_at(*number);
+        assert_eq!(rt; print(&scramble_sq1(tables, &state)).as_str(), *scramble);
+    }
 }
 
 #[test]
-fn tables_and_states(rt: HostRuntime) -> Result<(), Fail> {
-    let tables = Sq1Tables::build(&rt, rt.alloc(), 2)?;
+fn tables_and_states(rt: HostRuntime) {
+    let tables = Sq1Tables::build(&rt, rt.alloc(), 2).expect(&rt, "tables");
     assert!(rt;
         tables.table(TableName::Square).is_some() && tables.table(TableName::Corners).is_none()
     );
-    for (number, scramble) in &STATES {
-        let state = Sq1Numbers.state_at(*number);
-        assert_eq!(rt; print(&scramble_sq1(&tables, &state)).as_str(), *scramble);
-    }
-    Ok(())
+    are_solved(&rt, &tables);
 }

@@ -5,11 +5,10 @@ use scr_notation::print;
 use scr_stages::{StageTables, scramble_by_stages, solve_stages};
 use scr_table::{TableName, TableSet};
 use std::process::Abort;
-use std::test::Fail;
 
 /// Words that lead to cubes from solved, the last but two to the one with all edges flipped in place; the cubes'
 /// solutions by stages; their scrambles.
-const CUBES: [(&str, &str, &str); 6] = [
+static CUBES: [(&str, &str, &str); 6] = [
     ("U", "U U2", "U"),
     ("U2", "U2", "U2"),
     (
@@ -43,11 +42,10 @@ fn are_solved(rt: &impl Abort, tables: &StageTables, rows: &[(&str, &str, &str)]
 }
 
 #[test]
-fn tables_and_cubes(rt: HostRuntime) -> Result<(), Fail> {
-    let tables = StageTables::build(&rt, rt.alloc(), 4)?;
+fn tables_and_cubes(rt: HostRuntime) {
+    let tables = StageTables::build(&rt, rt.alloc(), 4).expect(&rt, "tables");
     assert!(rt;
         tables.table(TableName::Halves).is_some() && tables.table(TableName::Corners).is_none()
     );
     are_solved(&rt, &tables, &CUBES);
-    Ok(())
 }

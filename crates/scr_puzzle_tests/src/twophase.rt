@@ -3,16 +3,15 @@
 use crate::read;
 use scr_cube::{Cube, CubeNumbers, Held, HeldNumbers, PowerTurned};
 use scr_draw::{Numbering, Permit, attempt};
-use scr_notation::{Event, print};
+use scr_notation::{Event, Scramble, print};
 use scr_stages::StageTables;
 use scr_table::{TableName, TableSet};
 use scr_twophase::{DrawHeld, PruneTables, needs_333, scramble_333, scramble_333bf, two_parts};
 use scr_words::{ChaChaWords, Seed};
 use std::process::Abort;
-use std::test::Fail;
 
 /// Words that lead to cubes from solved, how many tries are made, and the two parts of these cubes, if there are any.
-const CUBES: [(&str, u32, Option<&str>); 10] = [
+static CUBES: [(&str, u32, Option<&str>); 10] = [
     ("", 2000, Some("")),
     ("", 0, None),
     ("U", 2000, Some("U'")),
@@ -41,21 +40,24 @@ const CUBES: [(&str, u32, Option<&str>); 10] = [
     ),
 ];
 
-/// The cubes to which these words lead have these two parts, and their scrambles lead to them.
-fn are_solved(
-    rt: &impl Abort,
-    prune: &PruneTables,
-    stages: &StageTables,
-    rows: &[(&str, u32, Option<&str>)],
-) {
-    for &(word, tries, expected) in rows {
+/// Whether the turns found, if any, have this text.
+fn are_of(found: Option<Scramble>, text: Option<&str>) -> bool {
+    match (found, text) {
+        (Some(parts), Some(text)) => print(&parts).as_str() == text,
+        (None, None) => true,
+        _ => false,
+    }
+}
+
+/// The cubes to which the words above lead have these two parts, and their scrambles lead to them.
+fn are_solved(rt: &impl Abort, prune: &PruneTables, stages: &StageTables) {
+    for (word, tries, expected) in &CUBES {
         let cube = read::cube(rt, word);
-        match (two_parts(prune, &cube, tries), expected) {
-            (Some(parts), Some(text)) => assert_eq!(rt; print(&parts).as_str(), text),
-            (None, None) => {}
-            _ => assert!(rt; false, "{word}"),
-        }
-        let scramble = scramble_333(prune, stages, &cube, tries);
+        assert!(rt;
+            are_of(two_parts(prune, &cube, *tries), *expected),
+            "{word}"
+        );
+        let scramble = scramble_333(prune, stages, &cube, *tries);
         assert!(rt; Cube::solved().play(&scramble) == Some(cube));
         assert!(rt; scramble.turns().len() <= if expected.is_some() { 22 } else { 52 });
     }
@@ -66,20 +68,22 @@ fn are_known(rt: &impl Abort, prune: &PruneTables, stages: &StageTables) {
     assert!(rt;
         prune.table(TableName::EdgeSlice).is_some() && prune.table(TableName::Flips).is_none()
     );
-    are_solved(rt, prune, stages, &CUBES);
+    are_solved(rt, prune, stages);
     // The cube that the seed of zeros gives first.
     let mut words = ChaChaWords::new(&Seed([0; 32]), 0);
     match attempt(&mut words, CubeNumbers.count()) {
-        Some(number) => {
-            let cube = CubeNumbers.state_at(number);
-            assert!(rt; needs_333(&cube, 5));
-            assert_eq!(rt;
-                print(&scramble_333(prune, stages, &cube, 2000)).as_str(),
-                "U2 F2 U R2 B2 U' B2 D2 U B2 R D2 R2 D B F2 D' U2 F L"
-            );
-        }
+        Some(number) => is_first(rt, prune, stages, &CubeNumbers.state_at(number)),
         None => assert!(rt; false),
     }
+}
+
+/// The cube that the seed of zeros gives needs five turns at least, and has this scramble.
+fn is_first(rt: &impl Abort, prune: &PruneTables, stages: &StageTables, cube: &Cube) {
+    assert!(rt; needs_333(cube, 5));
+    assert_eq!(rt;
+        print(&scramble_333(prune, stages, cube, 2000)).as_str(),
+        "U2 F2 U R2 B2 U' B2 D2 U B2 R D2 R2 D B F2 D' U2 F L"
+    );
 }
 
 /// Numbers of held cubes, how many tries are made, and how the scrambles of these cubes begin and end.
@@ -107,14 +111,15 @@ fn are_held(rt: &impl Abort, prune: &PruneTables, stages: &StageTables) {
 }
 
 #[test]
-fn tables_and_cubes(rt: HostRuntime) -> Result<(), Fail> {
-    let mut prune = PruneTables::build(&rt, rt.alloc(), 1)?;
-    let stages = StageTables::build(&rt, rt.alloc(), 1)?;
+fn tables_and_cubes(rt: HostRuntime) {
+    let mut prune = PruneTables::build(&rt, rt.alloc(), 1).expect(&rt, "tables");
+    let stages = StageTables::build(&rt, rt.alloc(), 1).expect(&rt, "tables");
     are_known(&rt, &prune, &stages);
     are_held(&rt, &prune, &stages);
-    prune.prepare(&rt, rt.alloc(), 1_000, 3)?;
+    prune
+        .prepare(&rt, rt.alloc(), 1_000, 3)
+        .expect(&rt, "outlooks");
     are_known(&rt, &prune, &stages);
-    Ok(())
 }
 
 /// A cube that one turn solves needs one, and no more; the one with all edges flipped in place needs five.
@@ -125,12 +130,16 @@ fn minima(rt: HostRuntime) {
     let turned = Cube::solved().turned(7);
     assert!(rt; needs_333(&turned, 1) && !needs_333(&turned, 2));
     assert!(rt; needs_333(&Cube::solved(), 0) && !needs_333(&Cube::solved(), 1));
-    // however it is held
+    assert_eq!(rt; CubeNumbers.number_of(&flipped), 2047);
+    assert_eq!(rt; CubeNumbers.count(), 43_252_003_274_489_856_000);
+}
+
+/// The same however a cube is held.
+#[test]
+fn minima_of_held_cubes(rt: HostRuntime) {
     let held = HeldNumbers.state_at(49151);
     let drawn = DrawHeld::new();
     assert!(rt; drawn.needs_at_least(&held, 5) && drawn.number_of(&held) == 49151);
     let solved = HeldNumbers.state_at(23);
     assert!(rt; drawn.needs_at_least(&solved, 0) && !drawn.needs_at_least(&solved, 1));
-    assert_eq!(rt; CubeNumbers.number_of(&flipped), 2047);
-    assert_eq!(rt; CubeNumbers.count(), 43_252_003_274_489_856_000);
 }
