@@ -14,7 +14,7 @@ use Rattle.scr_notation.specs.declared.event.Puzzle.{Puzzle}
 use Rattle.scr_notation.specs.declared.event.Puzzle.TheVariants as puzzle
 use Rattle.scr_notation.specs.Event.{puzzle_of, puzzle_row_of}
 use Rattle.scr_notation.specs.declared.turn.Turn.{Turn}
-use Rattle.scr_notation.specs.declared.turn.Turn.TheVariants.{Face, Axis, Tip, Layers, Twist, Pins, Over, Wide}
+use Rattle.scr_notation.specs.declared.turn.Turn.TheVariants.{Face, Axis, Tip, Wide}
 use Rattle.scr_notation.specs.Amounts.{is_amount}
 use Rattle.scr_notation.specs.Faces.{depths_of, is_face_turn}
 use Rattle.scr_notation.specs.Turns.{has_turn, permits}
@@ -52,13 +52,7 @@ layers-turned near far side a b (Face face depth amount) h =
     let layers = and_parts (nat_le 1 depth) (nat_le depth (depths_of near far face)) both.0 in
     let few : depth ≤ depths_of near far face = leb-true depth (depths_of near far face) layers.1 in
     lt-ltb depth side (omega (arith, few, depth-below near far face side a b))
-layers-turned near far side a b (Axis axis amount) h = absurd (false≢true h)
-layers-turned near far side a b (Tip tip amount) h = absurd (false≢true h)
-layers-turned near far side a b (Layers top bottom) h = absurd (false≢true h)
-layers-turned near far side a b Twist h = absurd (false≢true h)
-layers-turned near far side a b (Pins pins amount) h = absurd (false≢true h)
-layers-turned near far side a b Over h = absurd (false≢true h)
-layers-turned near far side a b (Wide letter plus) h = absurd (false≢true h)
+layers-turned near far side a b _ h = absurd (false≢true h)
 
 net-shown : (near far side : ℕ) → near < side → far < side → (w : List Turn)
     → All (λ t. IsTrue (is_face_turn near far t)) w → net_picture side w ≡ None → ⊥
@@ -86,13 +80,7 @@ stickers-played moves letters (t ∷ w) all =
 
 axis-move : (t : Turn) → IsTrue (permits Skewb t) → IsOneOf 4 t
 axis-move (Axis axis amount) h = (axis, amount, ltb-true axis 4 (and_parts (nat_lt axis 4) (is_amount 3 amount) h).0, refl)
-axis-move (Face face depth amount) h = absurd (false≢true h)
-axis-move (Tip tip amount) h = absurd (false≢true h)
-axis-move (Layers top bottom) h = absurd (false≢true h)
-axis-move Twist h = absurd (false≢true h)
-axis-move (Pins pins amount) h = absurd (false≢true h)
-axis-move Over h = absurd (false≢true h)
-axis-move (Wide letter plus) h = absurd (false≢true h)
+axis-move _ h = absurd (false≢true h)
 
 pyram-move : (t : Turn) → IsTrue (permits Pyram t) → IsOneOf 8 t
 pyram-move (Axis axis amount) h =
@@ -101,22 +89,11 @@ pyram-move (Axis axis amount) h =
 pyram-move (Tip tip amount) h =
     let lt : tip < 4 = ltb-true tip 4 (and_parts (nat_lt tip 4) (is_amount 3 amount) h).0 in
     (4 + tip, amount, omega (arith, lt), refl)
-pyram-move (Face face depth amount) h = absurd (false≢true h)
-pyram-move (Layers top bottom) h = absurd (false≢true h)
-pyram-move Twist h = absurd (false≢true h)
-pyram-move (Pins pins amount) h = absurd (false≢true h)
-pyram-move Over h = absurd (false≢true h)
-pyram-move (Wide letter plus) h = absurd (false≢true h)
+pyram-move _ h = absurd (false≢true h)
 
 minx-move : (t : Turn) → IsTrue (permits Minx t) → IsOneOf 3 t
 minx-move (Wide letter plus) h = (letter, cond plus 1 4, ltb-true letter 3 h, refl)
-minx-move (Face face depth amount) h = absurd (false≢true h)
-minx-move (Axis axis amount) h = absurd (false≢true h)
-minx-move (Tip tip amount) h = absurd (false≢true h)
-minx-move (Layers top bottom) h = absurd (false≢true h)
-minx-move Twist h = absurd (false≢true h)
-minx-move (Pins pins amount) h = absurd (false≢true h)
-minx-move Over h = absurd (false≢true h)
+minx-move _ h = absurd (false≢true h)
 
 stickers-shown : (event : Event) (count : ℕ) (moves : List (List ℕ)) (letters : List ℕ) (text : List ℕ → List ℕ)
     → count ≡ length moves → ((t : Turn) → IsTrue (permits event t) → IsOneOf count t) → (w : List Turn)

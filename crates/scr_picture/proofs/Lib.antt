@@ -12,3 +12,4 @@ pub mod OnePyram
 pub mod OneOther
 pub mod OneCube
 pub mod OneLine
+pub mod Cited

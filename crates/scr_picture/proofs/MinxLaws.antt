@@ -19,7 +19,7 @@ use Rattle.scr_combinatorics.proofs.PlayLaws.{and_then-some, map-some, play-appe
 use Rattle.scr_orbit.proofs.Orders.{each_at}
 use Rattle.scr_notation.specs.declared.event.Event.TheVariants.{Minx}
 use Rattle.scr_notation.specs.declared.turn.Turn.{Turn}
-use Rattle.scr_notation.specs.declared.turn.Turn.TheVariants.{Face, Axis, Tip, Layers, Twist, Pins, Over, Wide}
+use Rattle.scr_notation.specs.declared.turn.Turn.TheVariants.{Wide}
 use Rattle.scr_notation.specs.Turning.{opposite}
 use Rattle.scr_notation.specs.Turns.{permits}
 use Rattle.std.proofs.lemmas.Bool.{false≢true}
@@ -151,13 +151,7 @@ undone (Wide k true) letters r is size e =
 undone (Wide k false) letters r is size e =
     let found = map-some (λ from. moved_times 4 from letters) (slice_get minx_moves k) r e in
     back-minus k found.0 letters found.1 size r found.2
-undone (Face face depth amount) letters r is size e = absurd (false≢true is)
-undone (Axis axis amount) letters r is size e = absurd (false≢true is)
-undone (Tip tip amount) letters r is size e = absurd (false≢true is)
-undone (Layers top bottom) letters r is size e = absurd (false≢true is)
-undone Twist letters r is size e = absurd (false≢true is)
-undone (Pins pins amount) letters r is size e = absurd (false≢true is)
-undone Over letters r is size e = absurd (false≢true is)
+undone _ letters r is size e = absurd (false≢true is)
 
 pub taken_back : (w : List Turn) (letters r : List ℕ) → AllPass (permits Minx) w → length letters ≡ 132
     → play (stickers_after minx_moves) letters w ≡ Some r

@@ -1,6 +1,6 @@
 -- Cubes are told by their pictures.
 use Rattle.std.proofs.Common.{◌≡◌, ℕ, zero, suc, ◌<◌, List, [], ◌∷◌, ◌++◌, Some, length, get_or, map, refl, sym, ap, ◌∙◌, subst, inl, inr, arith, add-one, length-append}
-use Rattle.std.specs.Prelude.{flat_map, codes}
+use Rattle.std.specs.Prelude.{Contains, flat_map, codes}
 use Rattle.std.specs.List.{range_with_len}
 use Rattle.std.proofs.lemmas.Bool.{cases_eq}
 use Rattle.std.proofs.lemmas.Grind.{same_number_lists}
@@ -9,10 +9,13 @@ use Rattle.scr_combinatorics.specs.Play.{play}
 use Rattle.scr_combinatorics.proofs.PlayLaws.{play-keeps}
 use Rattle.scr_orbit.specs.Orbits.{Orbit}
 use Rattle.scr_orbit.specs.PowerPuzzles.{after_letter}
+use Rattle.scr_notation.specs.declared.event.Puzzle.{Puzzle}
+use Rattle.scr_notation.specs.declared.event.Puzzle.TheVariants as puzzle
 use Rattle.scr_notation.specs.declared.turn.Turn.{Turn}
 use Rattle.scr_cube.specs.Cube333.{CubeState, cube_powers, solved_cube}
 use Rattle.scr_cube.specs.Cube222.{powers_222, solved_222}
 use Rattle.scr_cube.specs.Held.{HeldState, IsHeld, held_cube_after, solved_held}
+use Rattle.scr_cube.proofs.Holds.{at_each}
 use Rattle.scr_cube.proofs.Laws333.{lawful_cube}
 use Rattle.scr_cube.proofs.Laws222.{lawful_222}
 use Rattle.scr_cube.proofs.HeldLaws.{IsHeld-after}
@@ -22,21 +25,11 @@ use Rattle.scr_net_laws.proofs.HeldNets.{IsHeld-solved}
 use Rattle.scr_net_laws.proofs.OneNet.{IsNet-corners, IsNet-cube, IsNet-held, one_corners, one_cube, one_held}
 use Rattle.scr_picture.specs.declared.names.Alphabet.TheVariants.{Cube}
 use Rattle.scr_picture.specs.Names.{name_in}
-use Rattle.scr_picture.specs.Pictures.{row_letters, face_letters, net_letters}
-use Rattle.scr_picture.proofs.ReadTexts.{cube_bytes, each_below, letter_of}
-use Rattle.scr_picture.proofs.TextLaws.{flat_map_range}
+use Rattle.scr_picture.specs.Pictures.{row_letters, face_letters, net_letters, net_picture, picture}
+use Rattle.scr_picture.proofs.ReadTexts.{cube_bytes, letter_of}
+use Rattle.scr_picture.proofs.TextLaws.{append-same, flat_map_range}
 
 -- ---- texts of parts that are as long
-
-append-same : (xs ys us vs : List ℕ) → length xs ≡ length ys → xs ++ us ≡ ys ++ vs → (xs ≡ ys) × (us ≡ vs)
-append-same [] [] us vs l e = (refl, e)
-append-same [] (y ∷ ys) us vs l e = absurd (omega (arith, l))
-append-same (x ∷ xs) [] us vs l e = absurd (omega (arith, l))
-append-same (x ∷ xs) (y ∷ ys) us vs l e =
-    let first : x ≡ y = cc in
-    let rest : xs ++ us ≡ ys ++ vs = cc in
-    let same = append-same xs ys us vs (omega (arith, l)) rest in
-    (ap (λ z. z ∷ xs) first ∙ ap (λ zs. y ∷ zs) same.0, same.1)
 
 module _ (f g : ℕ → List ℕ) where
   abbrev parts : (ℕ → List ℕ) → ℕ → List ℕ
@@ -58,7 +51,7 @@ module _ (f g : ℕ → List ℕ) where
   same-parts zero each e k lt = absurd (omega arith)
   same-parts (suc n) each e k lt =
       let lengths = same-length n (λ k lt. each k (omega arith)) in
-      let both = append-same (parts f n) (parts g n) (f n) (g n) lengths (sym (parts-suc f n) ∙ e ∙ parts-suc g n) in
+      let both = append-same (parts f n) (f n) (parts g n) (g n) lengths (sym (parts-suc f n) ∙ e ∙ parts-suc g n) in
       elim (cases_eq k n) [
         | inl same ↦ subst (λ i. f i ≡ g i) (sym same) both.1
         | inr ne ↦ same-parts n (λ k lt. each k (omega arith)) both.0 k (omega arith)
@@ -67,14 +60,11 @@ module _ (f g : ℕ → List ℕ) where
 -- ---- names of faces
 
 name-length : (x : ℕ) → x < 6 → length (name_in Cube x) ≡ 1
-name-length = each_below (λ x. length (name_in Cube x) ≡ 1) 6 (refl, (refl, (refl, (refl, (refl, (refl, tt))))))
+name-length = at_each (λ x. length (name_in Cube x)) (λ x. 1) 6 refl
 
 same-name : (x y : ℕ) → x < 6 → y < 6 → name_in Cube x ≡ name_in Cube y → x ≡ y
 same-name x y lx ly e =
-    let bytes = codes "URFDLB" in
-    let read = each_below (λ x. (rest : List ℕ) → map (letter_of bytes) (name_in Cube x ++ rest) ≡ x ∷ map (letter_of bytes) rest) 6 cube_bytes in
-    let same : x ∷ [] ≡ y ∷ [] = sym (read x lx []) ∙ ap (λ t. map (letter_of bytes) (t ++ [])) e ∙ read y ly [] in
-    cc
+    let same : x ∷ [] ≡ y ∷ [] = sym (cube_bytes x lx) ∙ ap (map (letter_of (codes "URFDLB"))) e ∙ cube_bytes y ly in cc
 
 -- ---- nets
 
@@ -116,6 +106,13 @@ module _ (side : ℕ) (net other : Letters) (is : IsNet side net) (is_other : Is
       same-cells e face row column lf lr (omega (arith, lc0, columns)))))
 
 -- ---- states that turns lead to
+
+-- a 3x3x3 that isn't held another way is shown by its net
+pub upright_picture : (what : Puzzle) (w : List Turn) → Contains (puzzle.Cube333 ∷ puzzle.Fewest333 ∷ []) what
+    → picture what w ≡ net_picture 3 w
+upright_picture what w (zero, lt, e) = ap (λ x. picture x w) (sym e)
+upright_picture what w (suc zero, lt, e) = ap (λ x. picture x w) (sym e)
+upright_picture what w (suc (suc k), lt, e) = absurd (omega arith)
 
 pub one_cube_shown : (w v : List Turn) (c d : CubeState) → play (after_letter cube_powers) solved_cube w ≡ Some c
     → play (after_letter cube_powers) solved_cube v ≡ Some d

@@ -21,14 +21,14 @@ entry_line (text ∷ texts) zero h =
 entry_line (text ∷ texts) (suc k) h =
     entry_line texts k (and_parts (not (list_any is_line_feed text)) (list_all (λ text. not (list_any is_line_feed text)) texts) h).1
 
-pub name_line : (alphabet : Alphabet) (letter : ℕ) → IsLine (name_in alphabet letter)
+name_line : (alphabet : Alphabet) (letter : ℕ) → IsLine (name_in alphabet letter)
 name_line Cube letter = entry_line (names_of Cube) letter refl
 name_line Pyraminx letter = entry_line (names_of Pyraminx) letter refl
 name_line Megaminx letter = entry_line (names_of Megaminx) letter refl
 name_line Hours letter = entry_line (names_of Hours) letter refl
 name_line Units letter = entry_line (names_of Units) letter refl
 
-pub line_then : (xs ys : List ℕ) → IsLine xs → IsLine ys → IsLine (xs ++ ys)
+line_then : (xs ys : List ℕ) → IsLine xs → IsLine ys → IsLine (xs ++ ys)
 line_then xs ys h k = list_any-append is_line_feed xs ys ∙ ap (λ b. b || list_any is_line_feed ys) h ∙ k
 
 flat_map_line : (f : ℕ → List ℕ) (xs : List ℕ) → ((x : ℕ) → IsLine (f x)) → IsLine (flat_map f xs)
@@ -39,10 +39,12 @@ flat_map_line f (x ∷ xs) h =
 pub joined_line : (alphabet : Alphabet) (letters : List ℕ) → IsLine (joined_text alphabet letters)
 joined_line alphabet letters = flat_map_line (name_in alphabet) letters (name_line alphabet)
 
--- names behind spaces
-pub others_line : (alphabet : Alphabet) (letters : List ℕ)
-    → IsLine (flat_map (λ other. 32 ∷ name_in alphabet other) letters)
-others_line alphabet letters = flat_map_line (λ other. 32 ∷ name_in alphabet other) letters (name_line alphabet)
+-- with spaces between names
+pub spaced_line : (alphabet : Alphabet) (letter : ℕ) (letters : List ℕ)
+    → IsLine (name_in alphabet letter ++ flat_map (λ other. 32 ∷ name_in alphabet other) letters)
+spaced_line alphabet letter letters =
+    line_then (name_in alphabet letter) _ (name_line alphabet letter)
+    (flat_map_line (λ other. 32 ∷ name_in alphabet other) letters (name_line alphabet))
 
 pub faces_line : (side : ℕ) (net : Letters) (faces : List ℕ) → IsLine (flat_map (face_letters side net) faces)
 faces_line side net faces =

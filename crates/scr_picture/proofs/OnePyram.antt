@@ -1,13 +1,12 @@
 -- A Pyraminx is told by its picture.
-use Rattle.std.proofs.Common.{◌≡◌, ℕ, ◌+◌, ◌%◌, ◌<◌, Bool, true, List, [], Some, map, refl, sym, ap, ◌∙◌, lit<, arith}
+use Rattle.std.proofs.Common.{◌≡◌, ℕ, ◌+◌, ◌%◌, ◌<◌, Bool, true, List, Some, map, refl, sym, ap, ◌∙◌, lit<, arith}
 use Rattle.std.specs.Prelude.{All, ◌&&◌, is_none, slice_index, unwrap_or, codes}
 use Rattle.std.specs.List.{range_with_len}
 use Rattle.std.proofs.lemmas.Bool.{and_parts}
 use Rattle.std.proofs.lemmas.Grind.{same_number_lists}
-use Rattle.std.proofs.lemmas.List.{append-nil}
 use Rattle.scr_combinatorics.specs.Lists.{numbers_from}
 use Rattle.scr_combinatorics.specs.Play.{play}
-use Rattle.scr_combinatorics.proofs.PermutationLaws.{All-permutation, IsPermutation-from_test}
+use Rattle.scr_combinatorics.proofs.PermutationLaws.{All-permutation}
 use Rattle.scr_orbit.specs.Orbits.{Orbit}
 use Rattle.scr_orbit.specs.PowerPuzzles.{after_letter}
 use Rattle.scr_orbit.proofs.DigitLaws.{added_digits-at}
@@ -20,6 +19,7 @@ use Rattle.scr_picture.specs.Pyraminx.{solved_pyram_picture}
 use Rattle.scr_picture.specs.Pieces.{edge_stickers, axial_stickers, tip_stickers, tips_of, place_with, sticker_of, pyram_sticker, pyram_shown}
 use Rattle.scr_picture.proofs.ShownPyram.{tips-in_place}
 use Rattle.scr_picture.proofs.OrbitStickers.{ShowsOrbit, elsewhere, same_orbit, shows}
+use Rattle.scr_picture.proofs.PlacesBelow.{All-below}
 use Rattle.scr_picture.proofs.ReadTexts.{pyraminx_bytes, letter_of, read-joined, All-picked}
 
 -- of no orbit before
@@ -34,7 +34,7 @@ any i = true
 
 -- four pieces at their axes
 four_axes : All (λ p. p < 4) (numbers_from 0 4)
-four_axes = All-permutation 4 (numbers_from 0 4) (IsPermutation-from_test 4 (numbers_from 0 4) refl)
+four_axes = All-below 4 (numbers_from 0 4) refl
 
 module _ (s : PyramState) (own : IsPyram s) where
   abbrev at_tips : ℕ → ℕ
@@ -68,9 +68,9 @@ module _ (s : PyramState) (own : IsPyram s) where
   IsRead : map (letter_of (codes "FRLD")) (joined_text Pyraminx (pyram_shown s)) ≡ pyram_shown s
   unfolding pyram_shown solved_pyram_picture
   IsRead =
-      ap (map (letter_of (codes "FRLD"))) (sym (append-nil (joined_text Pyraminx (pyram_shown s))))
-      ∙ read-joined Pyraminx (codes "FRLD") 4 pyraminx_bytes (pyram_shown s) [] (All-picked 4 solved_pyram_picture (lit< tt) refl (pyram_sticker s) (range_with_len 0 36))
-      ∙ append-nil (pyram_shown s)
+      read-joined Pyraminx (codes "FRLD") 4 pyraminx_bytes (pyram_shown s)
+      (All-picked 4 solved_pyram_picture (lit< tt) (All-below 4 solved_pyram_picture refl)
+      (pyram_sticker s) (range_with_len 0 36))
 
   tip-sum : (k : ℕ) → k < 4 → slice_index (tips_of s) k ≡ (slice_index s.body.axials k + slice_index s.tips k) % 3
   tip-sum k lt = added_digits-at 3 s.body.axials s.tips k (own.body.axials.size ∙ sym own.tips.size) (omega (arith, lt, own.body.axials.size))

@@ -1,9 +1,8 @@
 -- A Skewb is told by its picture.
-use Rattle.std.proofs.Common.{◌≡◌, ℕ, Bool, true, List, [], Some, map, refl, sym, ap, ◌∙◌, lit<}
+use Rattle.std.proofs.Common.{◌≡◌, ℕ, Bool, true, List, Some, map, refl, sym, ap, ◌∙◌, lit<}
 use Rattle.std.specs.Prelude.{◌&&◌, is_none, unwrap_or, codes}
 use Rattle.std.specs.List.{range_with_len}
 use Rattle.std.proofs.lemmas.Bool.{and_parts}
-use Rattle.std.proofs.lemmas.List.{append-nil}
 use Rattle.scr_combinatorics.specs.Play.{play}
 use Rattle.scr_combinatorics.proofs.PermutationLaws.{All-permutation}
 use Rattle.scr_orbit.specs.PowerPuzzles.{after_letter}
@@ -16,6 +15,7 @@ use Rattle.scr_picture.specs.Names.{joined_text}
 use Rattle.scr_picture.specs.Skewb.{solved_skewb_picture}
 use Rattle.scr_picture.specs.Pieces.{four_stickers, three_stickers, centre_stickers, place_with, sticker_of, skewb_sticker, skewb_shown}
 use Rattle.scr_picture.proofs.OrbitStickers.{ShowsOrbit, elsewhere, same_orbit, shows}
+use Rattle.scr_picture.proofs.PlacesBelow.{All-below}
 use Rattle.scr_picture.proofs.ReadTexts.{cube_bytes, letter_of, read-joined, All-picked}
 
 -- of no orbit before
@@ -60,9 +60,9 @@ module _ (s : SkewbState) (own : IsSkewb s) where
   IsRead : map (letter_of (codes "URFDLB")) (joined_text Cube (skewb_shown s)) ≡ skewb_shown s
   unfolding skewb_shown solved_skewb_picture
   IsRead =
-      ap (map (letter_of (codes "URFDLB"))) (sym (append-nil (joined_text Cube (skewb_shown s))))
-      ∙ read-joined Cube (codes "URFDLB") 6 cube_bytes (skewb_shown s) [] (All-picked 6 solved_skewb_picture (lit< tt) refl (skewb_sticker s) (range_with_len 0 30))
-      ∙ append-nil (skewb_shown s)
+      read-joined Cube (codes "URFDLB") 6 cube_bytes (skewb_shown s)
+      (All-picked 6 solved_skewb_picture (lit< tt) (All-below 6 solved_skewb_picture refl)
+      (skewb_sticker s) (range_with_len 0 30))
 
 one_skewb : (s r : SkewbState) → IsSkewb s → IsSkewb r → skewb_shown s ≡ skewb_shown r → s ≡ r
 unfolding solved_skewb_picture

@@ -30,6 +30,7 @@ ghost use Rattle.scr_picture.specs.Pieces.{pyram_shown, skewb_shown};
 ghost use Rattle.scr_picture.specs.Pictures.{clock_hours, net_letters, picture_of, sq1_letters};
 
 /// Turns of an event make a picture, but where one of a Square-1 is barred in its place.
+#[tactic(auto, using(crate::proofs::AlwaysShown::none_where_barred))]
 pub fn shown()
     ensures { (event : EventOf) (w : List Letter) → All (λ t. IsTrue (permits event t)) w → picture_of event w ≡ None
         → (puzzle_of event ≡ puzzle.Square1) × (play sq1_after solved_sq1 w ≡ None) }
@@ -37,6 +38,7 @@ pub fn shown()
 
 /// Wherever turns lead the pieces of a 2x2x2, they make the picture of these pieces; and only one state has each
 /// picture. Its corner DBL stands still, so two states are never one that is held two ways.
+#[tactic(auto, using(scr_net_laws::proofs::PlayedNets::corners_nets, crate::proofs::OneCube::one_corners_shown))]
 pub fn corners()
     ensures shown { (w : List Letter) (o : Orbit) → play (after_letter powers_222) solved_222 w ≡ Some o
         → picture_of C222 w ≡ Some (net_letters 2 (net_of_corners o)) }
@@ -45,6 +47,7 @@ pub fn corners()
 {}
 
 /// And of a 3x3x3, in each event in which it isn't held another way.
+#[tactic(auto, using(crate::proofs::Cited::cube))]
 pub fn cube()
     ensures shown { (event : EventOf) (w : List Letter) (c : CubeState) → Contains (puzzle.Cube333 ∷ puzzle.Fewest333 ∷ []) (puzzle_of event)
         → play (after_letter cube_powers) solved_cube w ≡ Some c
@@ -55,6 +58,7 @@ pub fn cube()
 {}
 
 /// And of a 3x3x3 that wide turns leave held any way, of the cube and of how it is held.
+#[tactic(auto, using(scr_net_laws::proofs::HeldNets::held_nets, crate::proofs::OneCube::one_held_shown))]
 pub fn held()
     ensures shown { (w : List Letter) (r : HeldState) → play held_cube_after solved_held w ≡ Some r
         → picture_of Bf333 w ≡ Some (net_letters 3 (net_of_held r)) }
@@ -63,6 +67,7 @@ pub fn held()
 {}
 
 /// And of a Skewb.
+#[tactic(auto, using(crate::proofs::ShownSkewb::skewb_played))]
 pub fn skewb()
     ensures shown { (w : List Letter) (s : SkewbState) → play (after_letter skewb_powers) solved_skewb w ≡ Some s
         → picture_of Skewb w ≡ Some (joined_text Faces (skewb_shown s)) }
@@ -71,6 +76,7 @@ pub fn skewb()
 {}
 
 /// And of a Pyraminx.
+#[tactic(auto, using(crate::proofs::ShownPyram::pyram_played))]
 pub fn pyraminx()
     ensures shown { (w : List Letter) (s : PyramState) → play (after_letter pyram_powers) solved_pyram w ≡ Some s
         → picture_of Pyram w ≡ Some (joined_text PyraminxFaces (pyram_shown s)) }
@@ -79,6 +85,7 @@ pub fn pyraminx()
 {}
 
 /// A Clock and a Square-1 show their states; and only one state has each picture.
+#[tactic(auto, using(crate::proofs::OneOther::one_clock_shown, crate::proofs::OneOther::one_sq1_shown))]
 pub fn states()
     ensures clock { (w : List Letter) (dials : List ℕ) → clock_after solved w ≡ Some dials
         → picture_of Clock w ≡ Some (spaced_text Hours (clock_hours dials)) }
@@ -92,6 +99,7 @@ pub fn states()
 
 /// Each move of a Megaminx done five times moves nothing, and done less often it doesn't leave the solved one as it is.
 /// Each turn leaves each letter as often as before, and turns taken back lead back.
+#[tactic(auto, using(crate::proofs::Cited::megaminx))]
 pub fn megaminx()
     ensures five { (k : ℕ) (from letters : List ℕ) → slice_get minx_moves k ≡ Some from → length letters ≡ 132
         → moved_times 5 from letters ≡ letters }

@@ -58,6 +58,7 @@ pub(crate) fn name_in(alphabet: Alphabet, letter: u8) -> &'static str
 }
 
 /// Letters one behind another.
+#[tactic(auto, using(crate::proofs::OneLine::joined_line))]
 pub(crate) fn joined(alphabet: Alphabet, letters: &[u8]) -> Text
     requires { length letters.now ≤ 132 }
     ensures bytes { result.bytes ≡ joined_text alphabet letters.now }

@@ -136,6 +136,7 @@ fn skewb_picture(scramble: &Scramble) -> Option<Picture>
 }
 
 /// The letters of a net.
+#[tactic(auto, using(crate::proofs::Cited::net_letters))]
 fn net_letters<const SIDE: usize>(net: &Net<SIDE>) -> Text
     requires { IsSide SIDE }
     ensures bytes { result.bytes ≡ net_letters SIDE net.now }
@@ -149,6 +150,7 @@ fn net_letters<const SIDE: usize>(net: &Net<SIDE>) -> Text
 }
 
 /// Writes the letters of a face behind a text.
+#[tactic(auto, using(crate::proofs::TextLaws::flat_map_behind))]
 fn push_face<const SIDE: usize>(text: &mut Text, net: &Net<SIDE>, face: u8)
     requires side { IsSide SIDE }
     requires face { face < 6 }
@@ -162,6 +164,7 @@ fn push_face<const SIDE: usize>(text: &mut Text, net: &Net<SIDE>, face: u8)
 }
 
 /// Writes the letters of a row of a face behind a text.
+#[tactic(auto, using(crate::proofs::TextLaws::flat_map_behind))]
 fn push_row<const SIDE: usize>(text: &mut Text, net: &Net<SIDE>, face: u8, row: u8)
     requires side { IsSide SIDE }
     requires face { face < 6 }

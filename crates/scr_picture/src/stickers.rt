@@ -9,6 +9,7 @@ use scr_orbit::pick_into;
 
 /// The letters of a picture after these turns, where the puzzle has these moves: each says from which sticker's place
 /// one comes to each place. `None` comes exactly where a turn is none of them.
+#[tactic(auto, using(crate::proofs::Cited::played))]
 pub(crate) fn played<const N: usize>(
     solved: &[u8; N],
     moves: &[[u8; N]],
@@ -47,6 +48,7 @@ fn move_of(turn: Turn) -> Option<(usize, u8)>
 }
 
 /// The letters after so many moves.
+#[tactic(auto, using(crate::proofs::Cited::moved))]
 fn moved<const N: usize>(letters: &[u8; N], from: &[u8; N], times: u8) -> [u8; N]
     requires { All (λ k. k < N) from.now }
     ensures { result ≡ moved_times times from.now letters.now }

@@ -6,6 +6,7 @@ ghost use Rattle.scr_picture.specs.Skewb.{skewb_moves, solved_skewb_picture};
 ghost use Rattle.scr_picture.specs.Megaminx.{minx_moves, solved_minx};
 
 /// Thirds about the axes U L R B of a Pyraminx, and of its tips u l r b.
+#[tactic(auto, unfolding(crate::specs::Pyraminx::pyram_moves, crate::specs::Stickers::sources))]
 pub(crate) fn pyram_moves() -> &'static [[u8; 36]]
     ensures moves { result.now ≡ pyram_moves }
     ensures below { All (λ from. All (λ k. k < 36) from) result.now }
@@ -49,6 +50,7 @@ static PYRAM_MOVES: [[u8; 36]; 8] = [
 ];
 
 /// Thirds about the axes U L R B of a Skewb.
+#[tactic(auto, unfolding(crate::specs::Skewb::skewb_moves, crate::specs::Stickers::sources))]
 pub(crate) fn skewb_moves() -> &'static [[u8; 30]]
     ensures moves { result.now ≡ skewb_moves }
     ensures below { All (λ from. All (λ k. k < 30) from) result.now }
@@ -76,6 +78,7 @@ static SKEWB_MOVES: [[u8; 30]; 4] = [
 ];
 
 /// The moves R++, D++ and U of a Megaminx.
+#[tactic(auto, unfolding(crate::specs::Megaminx::minx_moves, crate::specs::Stickers::sources))]
 pub(crate) fn minx_moves() -> &'static [[u8; 132]]
     ensures moves { result.now ≡ minx_moves }
     ensures below { All (λ from. All (λ k. k < 132) from) result.now }

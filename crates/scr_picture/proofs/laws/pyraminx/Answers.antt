@@ -1,16 +1,8 @@
-use Rattle.std.proofs.Common.{ap, sym, ◌∙◌}
-use Rattle.std.specs.Option.{option_map}
-use Rattle.std.proofs.lemmas.Option.{same_Some}
-use Rattle.scr_picture.specs.declared.names.Alphabet.TheVariants.{Pyraminx}
-use Rattle.scr_picture.specs.Names.{joined_text}
+use Rattle.std.proofs.Common.{arith}
 use Rattle.scr_picture.proofs.ShownPyram.{pyram_played}
 use Rattle.scr_picture.proofs.OnePyram.{one_pyram_shown}
 use Rattle.scr_picture.proofs.laws.pyraminx.Goals as goal
 
-pub returns : goal.returns
-returns c = record {
-  shown = λ w s e. ap (option_map (joined_text Pyraminx)) (pyram_played w s e);
-  one = λ w v s r e f same.
-      one_pyram_shown w v s r e f
-      (same_Some _ _ (sym (ap (option_map (joined_text Pyraminx)) (pyram_played w s e)) ∙ same ∙ ap (option_map (joined_text Pyraminx)) (pyram_played v r f)));
-}
+pub returns-clause-one : goal.returns-clause-one
+returns-clause-one c w v s r e f same =
+    one_pyram_shown w v s r e f (grind (arith, pyram_played w s e, pyram_played v r f))

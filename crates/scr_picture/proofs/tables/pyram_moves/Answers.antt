@@ -1,13 +1,5 @@
-use Rattle.std.proofs.Common.{refl}
-use Rattle.scr_picture.specs.declared.tables.TheConstants.{PYRAM_MOVES}
-use Rattle.scr_picture.specs.Stickers.{sources}
-use Rattle.scr_picture.specs.Pyraminx.{pyram_moves}
-use Rattle.scr_picture.proofs.PlacesBelow.{are_below}
+use Rattle.scr_picture.proofs.PlacesBelow.{pyram_below}
 use Rattle.scr_picture.proofs.tables.pyram_moves.Goals as goal
 
-pub returns-clause-moves : goal.returns-clause-moves
-unfolding pyram_moves sources
-returns-clause-moves c = refl
-
 pub returns-clause-below : goal.returns-clause-below
-returns-clause-below c = are_below 36 PYRAM_MOVES refl
+returns-clause-below c = pyram_below
