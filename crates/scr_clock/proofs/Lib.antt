@@ -8,3 +8,4 @@ pub mod AmountLaws
 pub mod Reached
 pub mod SideLaws
 pub mod ScrambleLaws
+pub mod Cited

@@ -35,6 +35,7 @@ const AMOUNTS: [[u8; 14]; 14] = [
 ];
 
 /// The amounts, from 0 to 11, of the one scramble that leads from solved to this state.
+#[tactic(auto, using(crate::proofs::Cited::solve))]
 pub fn solve(clock: &Clock) -> [u8; 14]
     ensures amounts { IsClock result }
     ensures gives { clock_after solved (written result) ≡ Some clock.now }
@@ -50,6 +51,7 @@ pub fn solve(clock: &Clock) -> [u8; 14]
 }
 
 /// The hour from 0 to 11 that the dials come to, each counted so many times.
+#[tactic(auto, using(crate::proofs::Cited::hour))]
 fn hour(times: &[u8; 14], dials: &[u8; 14]) -> u8
     ensures { result ≡ sum (products times.now dials.now) % 12 }
 {

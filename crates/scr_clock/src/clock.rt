@@ -70,6 +70,7 @@ impl Clock {
     /// The Clock after a turn by `amount` hours, from 0 to 11, of the side that faces the scrambler: the back or the
     /// front. `pins` says which pins are up on that side, as a sum of 1 for UR, 2 for DR, 4 for DL and 8 for UL as seen
     /// there, from 1 to 15.
+    #[tactic(auto, using(crate::proofs::Cited::pins))]
     pub fn pins(&self, back: bool, pins: u8, amount: u8) -> Clock
         requires some_pin { 0 < pins }
         requires four_pins { pins < 16 }
@@ -85,6 +86,7 @@ impl Clock {
 
     /// The Clock after the turns of a scramble, with the front facing the scrambler at first; `y2` changes the side
     /// that does. `None` comes exactly where a turn is none of Clock's.
+    #[tactic(auto, using(crate::proofs::Cited::play))]
     pub fn play(&self, scramble: &Scramble) -> Option<Clock>
         ensures { result ≡ clock_after self.now scramble.now.turns }
     {

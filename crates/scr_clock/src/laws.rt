@@ -7,6 +7,7 @@ ghost use Rattle.scr_combinatorics.specs.Reach.{IsReached};
 ghost use Rattle.scr_clock.specs.Dials.{IsClock, clock_puzzle};
 
 /// Turns lead from solved to every list of fourteen dials below 12, and to nothing else.
+#[tactic(auto, using(crate::proofs::Cited::each_clock_is_reached))]
 pub fn each_clock_is_reached()
     ensures { (dials : List ℕ) → IsClock dials ↔ IsReached clock_puzzle dials }
 {}

@@ -16,6 +16,7 @@ use crate::clock::Clock;
 /// It takes no memory. A random state is decided after a handful of comparisons of dials. One whose back edges each
 /// show 12 or what the back's centre shows, one in 1,296, takes up to 15 turns more, and one whose back is solved, or
 /// the edges and centre of its front, up to 180 turns with 15 turns after each.
+#[tactic(auto, unfolding(crate::specs::Least::needs_test_clock))]
 pub fn needs_at_least(clock: &Clock, least: u32) -> bool
     requires { least ≤ 3 }
     ensures test { result ≡ needs_test_clock clock.now least }
@@ -25,6 +26,7 @@ pub fn needs_at_least(clock: &Clock, least: u32) -> bool
 }
 
 /// Whether so many turns, at most two, lead to solved. Some of them may be by 0.
+#[tactic(auto, using(crate::proofs::Cited::turns_lead))]
 fn turns_lead(clock: &Clock, turns: u32) -> bool
     requires { turns ≤ 2 }
     ensures value { result ≡ turns_lead turns clock.now }

@@ -40,6 +40,7 @@ impl NumberedStates<Clock> for ClockNumbers {
 impl Numbering for ClockNumbers {
     type State = Clock;
 
+    #[tactic(auto, using(crate::proofs::Cited::digits))]
     fn state_at(&self, number: u128) -> Clock {
         Clock::of_valid(in_bytes(&dial_radix().unrank(number)))
     }
@@ -48,6 +49,7 @@ impl Numbering for ClockNumbers {
         dial_radix().rank(&digits(&state.dials()))
     }
 
+    #[tactic(auto, using(crate::proofs::Numbering::clock_numbering))]
     fn count(&self) -> u128 {
         COUNT
     }

@@ -14,6 +14,7 @@ use scr_notation::{Event, PIN_SETS, Scramble, Turn};
 
 /// The scramble that leads from solved to this Clock: nine pin sets on the front and, behind `y2`, five on the back, by
 /// the amounts of `solve`. No other scramble leads there.
+#[tactic(auto, using(crate::proofs::Cited::scramble_clock))]
 pub fn scramble_clock(clock: &Clock) -> Scramble
     ensures promised { IsTheScramble ClockEvent IsClockScramble (at_most 15) (clock_after solved) clock.now result }
     ensures fifteen { length result.turns ≡ 15 }
@@ -27,6 +28,7 @@ pub fn scramble_clock(clock: &Clock) -> Scramble
 }
 
 /// Adds the turns of these pin sets, each by the amount at its place, to a scramble of Clock.
+#[tactic(auto, using(crate::proofs::Cited::push_pins), unfolding(crate::specs::Written::pins_at))]
 fn push_pins(scramble: &mut Scramble, sets: &[u8], amounts: &[u8])
     requires of_clock { scramble.old.event ≡ ClockEvent }
     requires room { length scramble.old.turns + length sets.now ≤ 160 }

@@ -1,9 +1,5 @@
 use Rattle.scr_clock.proofs.LeastLaws.{needs_test-iff}
-use Rattle.scr_clock.proofs.Numbering.{clock_numbering}
 use Rattle.scr_clock.proofs.numbers.ClockNumbersNumbering.count.Goals as goal
-
-pub returns-clause-numbering : goal.returns-clause-numbering
-returns-clause-numbering c = clock_numbering
 
 pub returns-clause-told : goal.returns-clause-told
 returns-clause-told c = needs_test-iff
