@@ -3,3 +3,4 @@ pub mod Listed
 pub mod TurnOrder
 pub mod MoveLaws
 pub mod BitLaws
+pub mod Cited

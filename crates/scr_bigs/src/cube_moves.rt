@@ -92,6 +92,7 @@ fn number_of(left_out: LeftOut, choice: u8) -> u8
 }
 
 /// The turn with this number among all turns, in the order of axis, slab and amount.
+#[tactic(auto, using(crate::proofs::Cited::turn_at), unfolding(crate::proofs::TurnOrder::turn_numbered))]
 fn turn_at(side: u8, number: u8) -> Turn
     requires side { IsSide side }
     requires below { number < 9 * (side - 1) }

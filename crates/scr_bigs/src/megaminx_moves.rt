@@ -16,6 +16,7 @@ const LETTER_U: u8 = 2;
 /// Every number is accepted, so there is no refusal.
 ///
 /// At most 2^62 words were taken before.
+#[tactic(auto, using(crate::proofs::Cited::megaminx))]
 pub fn megaminx<W: Words>(words: &mut W) -> Scramble
     requires room { W.taken words.old ≤ 2 ^ 62 }
     ensures event { result.event ≡ Minx }
@@ -32,6 +33,7 @@ pub fn megaminx<W: Words>(words: &mut W) -> Scramble
 }
 
 /// Adds a row by the bits of a number.
+#[tactic(auto, using(crate::proofs::Cited::push_row))]
 fn push_row(scramble: &mut Scramble, number: u128, row: u32)
     requires of_megaminx { scramble.old.event ≡ Minx }
     requires room { length scramble.old.turns + 11 ≤ 160 }
