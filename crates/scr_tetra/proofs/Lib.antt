@@ -9,3 +9,4 @@ pub mod PyramTurns
 pub mod PyramLiterals
 pub mod PyramWords
 pub mod PyramTips
+pub mod Cited

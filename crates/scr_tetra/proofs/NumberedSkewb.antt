@@ -137,10 +137,7 @@ three_again (a ∷ b ∷ c ∷ []) class size below sum =
   where
     regrouped : (a b c d : ℕ) → a + (b + 0) + d + c ≡ a + (b + (c + 0)) + d
     regrouped a b c d = omega arith
-three_again [] class size below sum = absurd (omega (arith, size))
-three_again (a ∷ []) class size below sum = absurd (omega (arith, size))
-three_again (a ∷ b ∷ []) class size below sum = absurd (omega (arith, size))
-three_again (a ∷ b ∷ c ∷ d ∷ ds) class size below sum = absurd (omega (arith, size))
+three_again _ class size below sum = absurd (omega (arith, size))
 
 -- digits modulo 1 are zeros
 zeros-below : (ds : List ℕ) → All (λ d. d < 1) ds → zeros (length ds) ≡ ds

@@ -42,6 +42,7 @@ fn thirds_at(number: u128) -> [u8; 4]
 }
 
 /// The numbers of the axial pieces' digits and of the flips, and half the number of the list of edges.
+#[tactic(auto, unfolding(crate::specs::Pyraminx::tetraminx_digits))]
 fn digits_of(state: &Tetraminx) -> [u128; 3]
     requires { IsTetraminx state.now }
     ensures { result ≡ tetraminx_digits state.now }
@@ -60,6 +61,7 @@ impl NumberedStates<Tetraminx> for TetraminxNumbers {
 impl Numbering for TetraminxNumbers {
     type State = Tetraminx;
 
+    #[tactic(auto, using(crate::proofs::Cited::tetraminx_at), unfolding(crate::specs::Pyraminx::tetraminx_of_digits))]
     fn state_at(&self, number: u128) -> Tetraminx {
         let [axials, flips, edges] = MixedRadix::new(TETRAMINX_BASES).unrank(number);
         Tetraminx::of_valid(
@@ -71,10 +73,12 @@ impl Numbering for TetraminxNumbers {
         )
     }
 
+    #[tactic(auto, using(crate::proofs::NumberedPyram::tetraminx_has_three))]
     fn number_of(&self, state: &Tetraminx) -> u128 {
         MixedRadix::new(TETRAMINX_BASES).rank(&digits_of(state))
     }
 
+    #[tactic(auto, using(crate::proofs::NumberedPyram::tetraminx_numbering))]
     fn count(&self) -> u128 {
         MixedRadix::new(TETRAMINX_BASES).count()
     }
@@ -87,16 +91,19 @@ impl NumberedStates<Pyraminx> for PyramNumbers {
 impl Numbering for PyramNumbers {
     type State = Pyraminx;
 
+    #[tactic(auto, using(crate::proofs::Cited::pyram_state), unfolding(crate::specs::Pyraminx::pyram_of_digits))]
     fn state_at(&self, number: u128) -> Pyraminx {
         let [tips, body] = MixedRadix::new(PYRAM_BASES).unrank(number);
         Pyraminx::of_valid(TetraminxNumbers.state_at(body), thirds_at(tips))
     }
 
+    #[tactic(auto, using(crate::proofs::NumberedPyram::pyram_has_two), unfolding(crate::specs::Pyraminx::pyram_digits))]
     fn number_of(&self, state: &Pyraminx) -> u128 {
         let tips = number_of_thirds(&state.tips());
         MixedRadix::new(PYRAM_BASES).rank(&[tips, TetraminxNumbers.number_of(&state.body())])
     }
 
+    #[tactic(auto, using(crate::proofs::NumberedPyram::pyram_numbering))]
     fn count(&self) -> u128 {
         MixedRadix::new(PYRAM_BASES).count()
     }

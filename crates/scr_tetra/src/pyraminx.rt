@@ -124,6 +124,7 @@ impl Pyraminx {
     }
 
     /// The state after a turn of a tip alone, 0 to 3 for u l r b, clockwise by `amount` thirds, 1 or 2.
+    #[tactic(auto, using(crate::proofs::Cited::tip))]
     pub fn tip(&self, tip: u8, amount: u8) -> Pyraminx
         requires tip { tip < 4 }
         requires some { 0 < amount }

@@ -63,6 +63,7 @@ fn number_of_three_twists(skewb: &Skewb) -> u128
 
 /// The numbers of the twists of the four, of those of the three, of the even list of the four and of that of the
 /// centres.
+#[tactic(auto, unfolding(crate::specs::Skewb::skewb_digits))]
 fn digits_of(skewb: &Skewb) -> [u128; 4]
     requires { IsSkewb skewb.now }
     ensures { result ≡ skewb_digits skewb.now }
@@ -76,6 +77,7 @@ fn digits_of(skewb: &Skewb) -> [u128; 4]
 }
 
 /// The four, the three and the centres of the Skewb with a number.
+#[tactic(auto, using(crate::proofs::Cited::orbits_at))]
 fn orbits_at(number: u128) -> (Placed<4>, Placed<3>, Placed<6>)
     requires { number < skewb_numbered.count }
     ensures four { result.0 ≡ (skewb_numbered.state_at number).four }
@@ -102,16 +104,19 @@ impl NumberedStates<Skewb> for SkewbNumbers {
 impl Numbering for SkewbNumbers {
     type State = Skewb;
 
+    #[tactic(auto, using(crate::proofs::Cited::skewb_state))]
     fn state_at(&self, number: u128) -> Skewb {
         let (four, three, centres) = orbits_at(number);
         Skewb::of_valid(four, three, centres)
     }
 
+    #[tactic(auto, using(crate::proofs::Cited::skewb_number))]
     fn number_of(&self, state: &Skewb) -> u128 {
         MixedRadix::new(SKEWB_BASES).rank(&digits_of(state))
     }
 
     // 3^4 twists of the four, 3^2 of the three, 4!/2 even lists of the four, and 6!/2 of the centres.
+    #[tactic(auto, using(crate::proofs::NumberedSkewb::skewb_numbering))]
     fn count(&self) -> u128 {
         MixedRadix::new(SKEWB_BASES).count()
     }
