@@ -16,3 +16,4 @@ pub mod StageWords
 pub mod SolutionLaws
 pub mod EachIndex
 pub mod StateTables
+pub mod Cited

@@ -20,6 +20,7 @@ fn block_turn<const N: usize, const M: usize>(turn: &PlaceTurn<N>, block: &[u8; 
 }
 
 /// Fills `out` with what the turns with these numbers do to the pieces at the places of a block.
+#[tactic(auto, using(crate::proofs::Cited::fill_block_turns))]
 fn fill_block_turns<const N: usize, const M: usize>(
     turns: &[PlaceTurn<N>],
     block: &[u8; M],

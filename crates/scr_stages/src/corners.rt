@@ -15,6 +15,7 @@ use scr_orbit::pick_into;
 use scr_rank::Choose;
 
 /// The index of a list of corners, below 420.
+#[tactic(auto, unfolding(crate::specs::Tetrads::corner_index, crate::specs::Tetrads::relation_of))]
 pub(crate) fn corner_index(corners: &[u8; 8]) -> u32
     requires { IsPermutation 8 corners.now }
     ensures value { result ≡ corner_index corners.now }
@@ -27,6 +28,7 @@ pub(crate) fn corner_index(corners: &[u8; 8]) -> u32
 }
 
 /// The places of a tetrad's corners, in increasing order.
+#[tactic(auto, using(crate::proofs::Cited::places_of_tetrad))]
 fn places_of_tetrad(tetrad: &[u8; 4], corners: &[u8; 8]) -> [u8; 4]
     requires tetrad { IsPlaceSet 8 4 tetrad.now }
     requires corners { IsPermutation 8 corners.now }
@@ -50,6 +52,7 @@ fn axes_at(corners: &[u8; 8], places: &[u8; 4]) -> [u8; 3]
 }
 
 /// The list of corners that is kept for an index, below 420.
+#[tactic(auto, using(crate::proofs::Cited::corners_at), unfolding(crate::specs::Tetrads::corners_at))]
 fn corners_at(index: u32) -> [u8; 8]
     requires { index < 420 }
     ensures list { result ≡ corners_at index }

@@ -11,6 +11,7 @@ use scr_rank::PermRank;
 use scr_rank::permutations::rank_permutation;
 
 /// The number of a list of corners, below 96 for the lists that half turns lead to.
+#[tactic(auto, unfolding(crate::specs::Tetrads::half_corners_number))]
 pub(crate) fn half_corners_number(corners: &[u8; 8]) -> u32
     requires { IsPermutation 8 corners.now }
     ensures { result ≡ half_corners_number corners.now }
@@ -21,6 +22,7 @@ pub(crate) fn half_corners_number(corners: &[u8; 8]) -> u32
 }
 
 /// The list of corners with a number, below 96.
+#[tactic(auto, using(crate::proofs::Cited::half_corners_at), unfolding(crate::specs::Tetrads::half_corners_at))]
 pub(crate) fn half_corners_at(number: u32) -> [u8; 8]
     requires { number < 96 }
     ensures list { result ≡ half_corners_at number }

@@ -62,6 +62,7 @@ fn block_moves(alloc: Global, block: &[u8; 4]) -> Result<MoveTable, NoMemory>
 }
 
 /// The parity of each list of four, by its number.
+#[tactic(auto, using(crate::proofs::Cited::parities))]
 fn parities() -> [u8; 24]
     ensures { (k : ℕ) → k < 24 → slice_index result k ≡ parity (permutation_at 4 k) }
 {
@@ -89,6 +90,7 @@ impl HalfMoves {
     /// The parts of the cube with a number. Half turns leave the corners even, so of two lists of middle edges with one
     /// half the cube has the one that makes the edges even.
     #[inline]
+    #[tactic(auto, using(crate::proofs::Cited::parts))]
     fn parts(&self, position: u32) -> HalfParts
         requires { position < 663552 }
         ensures parts { AreParts (half_cubes.state_at position) result.middle result.second result.first result.corners }

@@ -65,6 +65,7 @@ impl HalfParts {
 }
 
 /// The number of the list of the edges at the places of a block, of at most 12, told by their places in it.
+#[tactic(auto, using(crate::proofs::Cited::block_number))]
 pub fn block_number<const N: usize>(block: &[u8; N], edges: &[u8; 12]) -> u32
     requires few { N ≤ 12 }
     requires fits { factorial N < 2 ^ 32 }

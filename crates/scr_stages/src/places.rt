@@ -32,6 +32,7 @@ pub(crate) fn pieces_in_block(pieces: &[u8], block: &[u8], out: &mut [u8])
 }
 
 /// Puts pieces at places, one after the other: `places` has each number below its length, of at most 255, once.
+#[tactic(auto, using(crate::proofs::Cited::arrange))]
 pub(crate) fn arrange(places: &[u8], pieces: &[u8], out: &mut [u8])
     requires few { length out.old ≤ 255 }
     requires places { IsPermutation (length out.old) places.now }

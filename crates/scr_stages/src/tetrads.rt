@@ -37,6 +37,7 @@ static RELATED: [[u8; 4]; 6] = [
 ];
 
 /// The axes of the first of four corners and each of the others.
+#[tactic(auto, using(crate::proofs::Cited::axes_of))]
 pub(crate) fn axes_of(corners: &[u8; 4]) -> [u8; 3]
     requires { All (λ corner. corner < 8) corners.now }
     ensures { result ≡ axes_of corners.now }
@@ -51,6 +52,7 @@ pub(crate) fn axes_of(corners: &[u8; 4]) -> [u8; 3]
 }
 
 /// The corners of the second tetrad of which the one at a place comes first, and whose axes are these.
+#[tactic(auto, using(crate::proofs::Cited::second_with))]
 pub(crate) fn second_with(place: usize, axes: &[u8; 3]) -> [u8; 4]
     requires place { place < 4 }
     requires axes { All (λ axis. axis < 3) axes.now }
@@ -66,6 +68,7 @@ pub(crate) fn second_with(place: usize, axes: &[u8; 3]) -> [u8; 4]
 }
 
 /// How three axes are to three others, as the number of a list of three.
+#[tactic(auto, using(crate::proofs::Cited::relation_number))]
 pub(crate) fn relation_number(axes: &[u8; 3], others: &[u8; 3]) -> u32
     ensures value { result ≡ relation_number axes.now others.now }
     ensures below { result < 6 }
@@ -79,6 +82,7 @@ pub(crate) fn relation_number(axes: &[u8; 3], others: &[u8; 3]) -> u32
 }
 
 /// Both tetrads, one after the other, the first in order and the second beside it with a relation, below 6.
+#[tactic(auto, using(crate::proofs::Cited::corners_related))]
 pub(crate) fn corners_related(relation: u32) -> [u8; 8]
     requires { relation < 6 }
     ensures { result ≡ corners_related relation }
