@@ -11,9 +11,7 @@ use Rattle.scr_rank.proofs.MixedSteps.{number_more, number_low}
 
 -- 12^11 fits 40 bits
 pub pow_small : (base n : ℕ) → base ≤ 12 → n ≤ 11 → base ^ n ≤ 743008370688
-pow_small base n lb ln =
-    let pos : 0 < 12 = omega arith in
-    omega (arith, pow-le-pow_left lb n, pow-le-pow_right pos ln)
+pow_small base n lb ln = grind (arith, pow-le-pow_left, pow-le-pow_right)
 
 -- ---- the number from a place on
 
@@ -32,17 +30,7 @@ rank_more base ds place number pos le e =
 
 rank_low : (base place : ℕ) (ds : List ℕ) → base ≤ 12 → (1 ≤ length ds) × (length ds ≤ 12)
     → IsTwists (length ds) base ds → rest_number base place ds < 743008370688
-rank_low base place ds lb size h =
-    let m : ℕ = length ds - 1 in
-    let few = size.1 in
-    let first = h.below 0 0 size.0 in
-    let pos : 0 < base = omega (arith, first) in
-    omega (
-      arith,
-      number_low (replicate m base) ds place (product_pos m base pos) (begins_with_all m base ds (omega arith) h.below),
-      product-replicate m base,
-      pow_small base m lb (omega arith),
-    )
+rank_low base place ds lb size h = grind (arith, number_low, product_pos, begins_with_all, product-replicate, pow_small)
 
 -- one digit more
 pub record IsRankedBy (base place : ℕ) (ds : List ℕ) (next : ℕ) : Type 0 where
@@ -52,10 +40,7 @@ pub record IsRankedBy (base place : ℕ) (ds : List ℕ) (next : ℕ) : Type 0 w
 pub ranked_by : (base : ℕ) (ds : List ℕ) (place number b : ℕ) → b ≡ base → base ≤ 12
     → (1 ≤ length ds) × (length ds ≤ 12) → IsTwists (length ds) base ds → 0 < place → place ≤ length ds - 1
     → number ≡ rest_number base place ds → IsRankedBy base place ds (number * b + slice_index ds (place - 1))
-ranked_by base ds place number b eb lb size h pos le e =
-    let more : number * b + slice_index ds (place - 1) ≡ rest_number base (place - 1) ds =
-    ap (λ z. number * z + slice_index ds (place - 1)) eb ∙ rank_more base ds place number pos le e in
-    record { counted = more; low = omega (arith, more, rank_low base (place - 1) ds lb size h) }
+ranked_by base ds place number b eb lb size h pos le e = grind (arith, rank_more, rank_low)
 
 -- ---- the digits up to a place
 
@@ -71,18 +56,12 @@ module _ (base last place rest sum : ℕ) (out : List ℕ) (lt : place < last) (
 
   pub summed_more : sum ≡ total (take place out) % base
       → (sum + rest % base) % base ≡ total (take (place + 1) (set out place (rest % base))) % base
-  summed_more e =
-      ap (λ z. (z + rest % base) % base) e
-      ∙ mod-add-mod (total (take place out)) base (rest % base)
-      ∙ ap (λ z. z % base) (sym (ap total (take_more_set out place (rest % base) room) ∙ total-push (take place out) (rest % base)))
+  summed_more e = grind (arith, mod-add-mod, take_more_set, total-push)
 
 pub written_end : (base last place rest number : ℕ) (out : List ℕ) → last ≤ place → place ≤ last
     → take place out ++ mixed_digits (replicate (last - place) base) rest ≡ mixed_digits (replicate last base) number
     → take last out ≡ mixed_digits (replicate last base) number
-written_end base last place rest number out low high e =
-    let same : last ≡ place = omega arith in
-    let none : 0 ≡ last - place = omega arith in
-    ap (λ z. take z out) same ∙ sym (append-nil (take place out)) ∙ ap (λ z. take place out ++ mixed_digits (replicate z base) rest) none ∙ e
+written_end base last place rest number out low high e = grind (arith, append-nil)
 
 -- ---- the last digit
 

@@ -3,3 +3,4 @@ mod PlaceSetSteps
 mod DigitSteps
 mod MixedSteps
 mod PairingSteps
+pub mod Cited

@@ -30,9 +30,8 @@ product-pos (b ∷ bs) h =
 
 pub length-digits : (bases ds : List ℕ) → AreDigits bases ds → length ds ≡ length bases
 length-digits [] [] h = refl
-length-digits [] (d ∷ ds) h = absurd h
-length-digits (b ∷ bs) [] h = absurd h
 length-digits (b ∷ bs) (d ∷ ds) h = ap suc (length-digits bs ds h.1)
+length-digits bases ds h = absurd h
 
 BeginsWithDigits-drop : (bases ds : List ℕ) (place : ℕ) → BeginsWithDigits bases ds
     → BeginsWithDigits (drop place bases) (drop place ds)
@@ -57,21 +56,11 @@ product_more bases place count pos le e =
 pub number_more : (bases ds : List ℕ) (place number : ℕ) → length bases ≤ length ds → 0 < place → place ≤ length bases
     → number ≡ mixed_number (drop place bases) (drop place ds)
     → number * slice_index bases (place - 1) + slice_index ds (place - 1) ≡ mixed_number (drop (place - 1) bases) (drop (place - 1) ds)
-number_more bases ds place number size pos le e =
-    let q : ℕ = place - 1 in
-    let back : q + 1 ≡ place = omega arith in
-    let b : ℕ = slice_index bases q in
-    let d : ℕ = slice_index ds q in
-    let whole : mixed_number (drop q bases) (drop q ds) ≡ d + b * mixed_number (drop (q + 1) bases) (drop (q + 1) ds) =
-    ap (λ zs. mixed_number zs (drop q ds)) (drop_more bases q 0 (omega arith))
-    ∙ ap (mixed_number (b ∷ drop (q + 1) bases)) (drop_more ds q 0 (omega arith)) in
-    omega (arith, whole, ap (λ z. z * b) e, ap (λ z. b * mixed_number (drop z bases) (drop z ds)) back, mul_comm b (mixed_number (drop place bases) (drop place ds)))
+number_more bases ds place number size pos le e = grind (arith, drop_more, mul_comm)
 
 pub number_low : (bases ds : List ℕ) (place : ℕ) → 0 < product bases → BeginsWithDigits bases ds
     → mixed_number (drop place bases) (drop place ds) < product bases
-number_low bases ds place pos h =
-    let rest = product-drop bases place pos in
-    omega (arith, first_number-lt (drop place bases) (drop place ds) (BeginsWithDigits-drop bases ds place h), rest.1)
+number_low bases ds place pos h = grind (arith, product-drop, first_number-lt, BeginsWithDigits-drop)
 
 -- one digit more
 pub record IsRankedBy (bases ds : List ℕ) (place next : ℕ) : Type 0 where
@@ -82,5 +71,4 @@ pub ranked_by : (bases ds : List ℕ) (place number : ℕ) → 0 < product bases
     → place ≤ length bases → number ≡ mixed_number (drop place bases) (drop place ds)
     → IsRankedBy bases ds place (number * slice_index bases (place - 1) + slice_index ds (place - 1))
 ranked_by bases ds place number some valid pos le e =
-    let more = number_more bases ds place number (omega (arith, length-digits bases ds valid)) pos le e in
-    record { counted = more; low = omega (arith, more, number_low bases ds (place - 1) some (begins_with_digits bases ds valid)) }
+    grind (arith, number_more, length-digits, number_low, begins_with_digits)

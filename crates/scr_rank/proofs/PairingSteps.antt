@@ -98,8 +98,7 @@ unranked_first_choice pairs left choices e = omega arith
 
 pub unranked_end : (pairs r left : ℕ) (partners : List ℕ) → r < 105 → pairs ≡ 4 → UnrankedPairs pairs r left partners
     → partners ≡ pairing_at 4 r
-unranked_end pairs r left partners lt e u =
-    sym (take_all (2 * pairs) partners (omega (arith, u.size))) ∙ u.list ∙ ap (λ n. pairing_at n (r % pairing_count n)) e ∙ ap (pairing_at 4) (omega arith)
+unranked_end pairs r left partners lt e u = grind (arith, take_all)
 
 -- ---- the number of a pairing, from its first pairs on
 

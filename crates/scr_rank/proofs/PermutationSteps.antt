@@ -1,5 +1,5 @@
 -- The steps of the loops over permutations, as facts about lists.
-use Rattle.std.proofs.Common.{◌≡◌, ℕ, zero, suc, ◌+◌, ◌-◌, ◌*◌, ◌/◌, ◌%◌, ◌^◌, ◌<◌, ◌≤◌, All, List, [], ◌∷◌, ◌++◌, map, length, take, drop, set, slice_index, refl, sym, ap, ◌∙◌, subst, zero-add, arith}
+use Rattle.std.proofs.Common.{◌≡◌, ℕ, zero, suc, ◌+◌, ◌-◌, ◌*◌, ◌/◌, ◌%◌, ◌^◌, ◌<◌, ◌≤◌, All, List, [], ◌∷◌, map, length, take, drop, set, slice_index, refl, sym, ap, ◌∙◌, subst, zero-add, arith}
 use Rattle.std.specs.List.{swap}
 use Rattle.std.proofs.lemmas.List.Edits.{swap_is}
 use Rattle.std.proofs.lemmas.List.Elements.{All-same, All-weaker}
@@ -98,26 +98,13 @@ pub record UnrankStep (n r rest : ℕ) (xs : List ℕ) : Type 0 where
 
 -- the first digit of a number below (n + 1) * f, and what it leaves
 pub first_digit : (r n f : ℕ) → 0 < f → (r % (suc n * f) / f ≡ r / f % suc n) × (r % (suc n * f) % f ≡ r % f)
-first_digit r n f pos =
-    let d : ℕ = r / f % suc n in
-    let low : r % f < f = mod_below r f pos in
-    let some : 0 < suc n = omega arith in
-    let whole : r % (suc n * f) ≡ d * f + r % f = mod-mul r some pos in
-    (ap (λ z. z / f) whole ∙ div-mul-add d f (r % f) low, ap (λ z. z % f) whole ∙ mod-mul-add d f (r % f) low)
+first_digit r n f pos = grind (arith, mod_below, mod-mul, div-mul-add, mod-mul-add)
 
 -- one digit more
 unrank_more : (n r rest : ℕ) (xs : List ℕ) → UnrankStep n r rest xs
     → UnrankStep (suc n) r (rest / suc n) (rest % suc n ∷ map (nth_except (rest % suc n)) xs)
 unfolding permutation_at
-unrank_more n r rest xs h =
-    let f : ℕ = factorial n in
-    let parts = first_digit r n f (factorial-pos n) in
-    let digit : rest % suc n ≡ r % (suc n * f) / f = ap (λ z. z % suc n) h.rest_is ∙ sym parts.0 in
-    let tail : xs ≡ permutation_at n (r % (suc n * f) % f) = h.list ∙ ap (permutation_at n) (sym parts.1) in
-    record {
-      list = ap (λ d. d ∷ map (nth_except d) xs) digit ∙ ap (λ zs. r % (suc n * f) / f ∷ map (nth_except (r % (suc n * f) / f)) zs) tail;
-      rest_is = ap (λ z. z / suc n) h.rest_is ∙ div-div-eq-div-mul r f (suc n) ∙ ap (λ z. r / z) (mul_comm f (suc n));
-    }
+unrank_more n r rest xs h = grind (arith, first_digit, factorial-pos, div-div-eq-div-mul, mul_comm)
 
 -- what lies after the place that is written
 after_write : (out : List ℕ) (q d : ℕ)
@@ -128,14 +115,7 @@ after_write out q d = take_rest (set out q d) (q + 1) ∙ drop-set-lt (q + 1) ou
 from_write : (out : List ℕ) (q d : ℕ) (ys : List ℕ) → q < length out
     → drop q (put_mid (q + 1) (length (set out q d) - (q + 1)) (set out q d) ys) ≡ d ∷ ys
 from_write out q d ys lt =
-    let s : List ℕ = set out q d in
-    let k : ℕ = length s - (q + 1) in
-    let size : length s ≡ length out = length-set out q d in
-    let front : List ℕ = take (q + 1) s in
-    drop-append-le q front (ys ++ drop k (drop (q + 1) s)) (omega (arith, length-take-le (q + 1) s (omega arith)))
-    ∙ ap (λ zs. zs ++ (ys ++ drop k (drop (q + 1) s))) (drop-take q 1 s ∙ ap (take 1) (drop-set out q d lt))
-    ∙ ap (λ zs. d ∷ (ys ++ zs)) (drop_all k (drop (q + 1) s) (omega (arith, length-drop (q + 1) s)))
-    ∙ ap (λ zs. d ∷ zs) (append-nil ys)
+    grind (arith, length-set, drop-append-le, length-take-le, drop-take, drop-set, drop_all, length-drop, append-nil)
 
 module _ (len : ℕ) (out : List ℕ) (size : length out ≡ len) (place r rest d : ℕ) (few : len ≤ 12) (pos : 0 < place) (le : place ≤ len) (h : UnrankStep (len - place) r rest (drop place out)) (is_d : d ≡ rest % (len - (place - 1))) where
   pub unrank_room : All (λ z. z < 255) (take (length (set out (place - 1) d) - (place - 1 + 1)) (drop (place - 1 + 1) (set out (place - 1) d)))
@@ -168,17 +148,12 @@ module _ (len : ℕ) (out : List ℕ) (size : length out ≡ len) (place r rest 
 -- at the start nothing is written
 pub unrank_start : (out : List ℕ) (r : ℕ) → UnrankStep (length out - length out) r r (drop (length out) out)
 unfolding permutation_at
-unrank_start out r =
-    let none : 0 ≡ length out - length out = omega arith in
-    subst (λ n. UnrankStep n r r (drop (length out) out)) none (record { list = drop_all (length out) out (omega arith); rest_is = sym (div-one r) })
+unrank_start out r = grind (arith, drop_all, div-one)
 
 -- and at the end all is
 pub unrank_end : (n r rest place : ℕ) (out : List ℕ) → r < factorial n → place ≤ 0
     → UnrankStep (n - place) r rest (drop place out) → out ≡ permutation_at n r
-unrank_end n r rest place out lt none h =
-    let first : place ≡ 0 = omega arith in
-    let whole : n - place ≡ n = omega arith in
-    sym (ap (λ z. drop z out) first) ∙ h.list ∙ ap (λ m. permutation_at m (r % factorial m)) whole ∙ ap (permutation_at n) (mod-eq_of_lt lt)
+unrank_end n r rest place out lt none h = grind (arith, mod-eq_of_lt)
 
 -- ---- the last two elements exchanged
 
@@ -187,16 +162,10 @@ swap_later : (x y : ℕ) (ys : List ℕ) (i j : ℕ) → i < length (y ∷ ys) �
 swap_later x y ys i j li lj = ap (λ zs. x ∷ zs) (swap_is (y ∷ ys) i j x li lj)
 
 swap_last_two : (xs : List ℕ) (i : ℕ) → suc (suc i) ≡ length xs → swap xs i (suc i) ≡ last_swapped xs
-swap_last_two [] i e = absurd (omega arith)
-swap_last_two (x ∷ []) i e = absurd (omega arith)
 swap_last_two (x ∷ y ∷ []) zero e = refl
-swap_last_two (x ∷ y ∷ []) (suc i) e = absurd (omega arith)
-swap_last_two (x ∷ y ∷ z ∷ xs) zero e = absurd (omega arith)
-swap_last_two (x ∷ y ∷ z ∷ xs) (suc i) e =
-    swap_later x y (z ∷ xs) i (suc i) (omega arith) (omega arith) ∙ ap (λ zs. x ∷ zs) (swap_last_two (y ∷ z ∷ xs) i (omega arith))
+swap_last_two (x ∷ y ∷ z ∷ xs) (suc i) e = grind (arith, swap_later, swap_last_two (y ∷ z ∷ xs) i (omega arith))
+swap_last_two xs i e = absurd (omega arith)
 
 pub swap-last : (xs : List ℕ) (low high : ℕ) → 2 ≤ length xs → low ≡ length xs - 1 - 1 → high ≡ length xs - 1
     → swap xs low high ≡ last_swapped xs
-swap-last xs low high le el eh =
-    let next : high ≡ suc low = omega arith in
-    ap (swap xs low) next ∙ swap_last_two xs low (omega arith)
+swap-last xs low high le el eh = grind (arith, swap_last_two)

@@ -9,28 +9,17 @@ use Rattle.scr_combinatorics.proofs.PlaceSets.{binomial-zero, binomial-above, bi
 -- ---- binomials
 
 pub binomial-small : (n k : ℕ) → n ≤ 12 → binomial n k ≤ 4096
-binomial-small n k few =
-    let pos : 0 < 2 = omega arith in
-    omega (arith, binomial-le_pow n k, pow-le-pow_right pos few)
+binomial-small n k few = grind (arith, binomial-le_pow, pow-le-pow_right)
 
 pub count_step : (n k count : ℕ) → k < n → count ≡ binomial n k → count * (n - k) / (k + 1) ≡ binomial n (k + 1)
-count_step n k count lt e =
-    let pos : 0 < k + 1 = omega arith in
-    let next : count * (n - k) ≡ binomial n (k + 1) * (k + 1) =
-    ap (λ z. z * (n - k)) e ∙ sym (ap (λ z. binomial n z * z) (add-one k) ∙ binomial-next n k (n - k) (omega arith)) in
-    ap (λ z. z / (k + 1)) next ∙ mul-div_cancel (binomial n (k + 1)) pos
+count_step n k count lt e = grind (arith, add-one, binomial-next, mul-div_cancel)
 
 pub count_small : (n k count : ℕ) → n ≤ 12 → count ≡ binomial n k → count * (n - k) < 2 ^ 32
-count_small n k count few e =
-    let m : ℕ = n - k in
-    let low : count ≤ 4096 = omega (arith, binomial-small n k few) in
-    let few' : m ≤ 12 = omega arith in
-    omega (arith, mul-le-mul_right m low)
+count_small n k count few e = grind (arith, binomial-small, mul-le-mul_right)
 
 -- no set is larger than there are places
 pub size_within : (n k number : ℕ) → number < binomial n k → k ≤ n
-size_within n k number lt =
-    elim (cases_lt n k) [ inl above ↦ absurd (omega (arith, binomial-above n k above)) | inr within ↦ within ]
+size_within n k number lt = grind (arith, cases_lt, binomial-above)
 
 -- ---- the sets with the next place
 
@@ -86,9 +75,7 @@ next_sets places place size sets few lt within e =
 -- a set that takes the place has one place less to come
 pub next_size : (n length chosen chosen' : ℕ) → chosen < length → chosen' ≡ chosen + 1
     → with_first n (length - chosen) ≡ binomial n (length - chosen')
-next_size n length chosen chosen' lt e =
-    let more : length - chosen ≡ suc (length - chosen') = omega arith in
-    ap (with_first n) more
+next_size n length chosen chosen' lt e = grind arith
 
 -- where none is to come, none has the place
 pub none_left : (n length chosen : ℕ) → length ≤ chosen → with_first n (length - chosen) ≡ 0
@@ -106,14 +93,7 @@ rest_of places place lt = omega arith
 pub rank_here : (xs : List ℕ) (places place passed : ℕ) → place < places → passed < length xs
     → slice_index xs passed ≡ place
     → rest_number xs places place passed ≡ rest_number xs places (place + 1) (passed + 1)
-rank_here xs places place passed lt more here =
-    let rest : ℕ = places - (place + 1) in
-    let x : ℕ = slice_index xs passed in
-    let ys : List ℕ = drop (passed + 1) xs in
-    ap (λ z. place_set_number_from place z (drop passed xs)) (rest_of places place lt)
-    ∙ ap (place_set_number_from place (suc rest)) (drop_more xs passed 0 more)
-    ∙ number-here place rest x ys here
-    ∙ ap (λ z. place_set_number_from z rest ys) (sym (add-one place))
+rank_here xs places place passed lt more here = grind (arith, rest_of, drop_more, number-here, add-one)
 
 number-past : (place rest : ℕ) (zs : List ℕ) → ((x : ℕ) (ys : List ℕ) → zs ≡ x ∷ ys → x ≡ place → ⊥)
     → place_set_number_from place (suc rest) zs ≡ with_first rest (length zs) + place_set_number_from (suc place) rest zs
@@ -123,17 +103,7 @@ number-past place rest (x ∷ ys) other = number-later place rest x ys (other x 
 pub rank_past : (xs : List ℕ) (places place passed : ℕ) → place < places
     → (passed < length xs → slice_index xs passed ≡ place → ⊥)
     → rest_number xs places place passed ≡ with_first (places - (place + 1)) (length xs - passed) + rest_number xs places (place + 1) passed
-rank_past xs places place passed lt other =
-    let rest : ℕ = places - (place + 1) in
-    let zs : List ℕ = drop passed xs in
-    let apart : (x : ℕ) (ys : List ℕ) → zs ≡ x ∷ ys → x ≡ place → ⊥ = λ x ys e same.
-    let more : passed < length xs = omega (arith, ap length e, length-drop passed xs) in
-    let first : slice_index xs passed ≡ x = let both = sym (drop_more xs passed 0 more) ∙ e in cc in
-    other more (first ∙ same) in
-    ap (λ z. place_set_number_from place z zs) (rest_of places place lt)
-    ∙ number-past place rest zs apart
-    ∙ ap (λ z. with_first rest z + place_set_number_from (suc place) rest zs) (length-drop passed xs)
-    ∙ ap (λ z. with_first rest (length xs - passed) + place_set_number_from z rest zs) (sym (add-one place))
+rank_past xs places place passed lt other = grind (arith, length-drop, drop_more, rest_of, number-past, add-one)
 
 pub rank_small : (places : ℕ) (xs : List ℕ) → places ≤ 12 → IsPlaceSet places (length xs) xs
     → (place_set_number places xs < 2 ^ 32) × (length xs ≤ 12)
@@ -171,13 +141,7 @@ module _ (out : List ℕ) (places place chosen rest : ℕ) (lt : place < places)
 
   unrank_past : with_first (places - (place + 1)) (length out - chosen) ≤ rest
       → whole out places (place + 1) chosen (rest - with_first (places - (place + 1)) (length out - chosen)) ≡ whole out places place chosen rest
-  unrank_past high =
-      let count : ℕ = places - (place + 1) in
-      let k : ℕ = length out - chosen in
-      let all : suc count ≡ places - place = omega arith in
-      ap (λ z. take chosen out ++ place_set_from z count k (rest - with_first count k)) (add-one place)
-      ∙ ap (λ zs. take chosen out ++ zs) (sym (set-past count k high))
-      ∙ ap (λ z. take chosen out ++ place_set_from place z k rest) all
+  unrank_past high = grind (arith, add-one, set-past)
 
   -- the same at the values that the code leaves
   module _ (out' : List ℕ) (chosen' rest' with_place : ℕ) (is : with_place ≡ with_first (places - (place + 1)) (length out - chosen)) where
@@ -222,13 +186,7 @@ start_sets : (places size sets : ℕ) → sets ≡ binomial places size → sets
 start_sets places size sets e = e ∙ ap (λ n. binomial n size) (omega arith) ∙ ap (binomial (places - 0)) (omega arith)
 
 pub ranked_start : (xs : List ℕ) (places sets : ℕ) → sets ≡ binomial places (length xs) → IsRanked xs places 0 0 0 sets
-ranked_start xs places sets e =
-    let all : places - 0 ≡ places = omega arith in
-    record {
-      within = omega arith;
-      sets_left = start_sets places (length xs) sets e;
-      counted = omega (arith, ap (λ n. place_set_number_from 0 n xs) all);
-    }
+ranked_start xs places sets e = grind (arith, start_sets)
 
 pub ranked_next : {xs : List ℕ} {places place passed number sets : ℕ} → places ≤ 12 → IsPlaceSet places (length xs) xs
     → place < places → IsRanked xs places place passed number sets → NextSets places place (length xs - passed) sets
@@ -245,11 +203,7 @@ pub record IsUnranked (number places : ℕ) (out : List ℕ) (place chosen rest 
 pub unranked_start : (number places : ℕ) (out : List ℕ) (sets : ℕ) → sets ≡ binomial places (length out)
     → IsUnranked number places out 0 0 number sets
 unfolding place_set_at
-unranked_start number places out sets e = record {
-  within = omega arith;
-  sets_left = start_sets places (length out) sets e;
-  written = ap (λ n. place_set_from 0 n (length out - 0) number) (omega arith) ∙ ap (λ k. place_set_from 0 places k number) (omega arith);
-}
+unranked_start number places out sets e = grind (arith, start_sets)
 
 pub unranked_next : {number places : ℕ} {out : List ℕ} {place chosen rest sets : ℕ} {all : ℕ} → places ≤ 12
     → length out ≡ all → number < binomial places all → place < places
@@ -259,5 +213,4 @@ unranked_next {number} {places} {out} {place} {chosen} {rest} {sets} {all} few s
 
 -- where a number is below that of the sets with the place, some place is still to come
 pub some_left : (n length chosen number : ℕ) → number < with_first n (length - chosen) → chosen < length
-some_left n length chosen number lt =
-    elim (cases_lt chosen length) [ inl more ↦ more | inr none ↦ absurd (omega (arith, none_left n length chosen none)) ]
+some_left n length chosen number lt = grind (arith, cases_lt, none_left)

@@ -4,6 +4,7 @@ ghost use Rattle.scr_combinatorics.specs.Twists.{IsTwists, twists_number, twists
 
 /// The number that all digits but the last one write, the least digit first.
 #[inline]
+#[tactic(auto, using(crate::proofs::DigitSteps::ranked_by))]
 pub fn rank_twists(digits: &[u8], base: u8) -> u64
     requires some { (1 ≤ length digits.now) × (length digits.now ≤ 12) }
     requires base { base ≤ 12 }
@@ -47,6 +48,7 @@ pub struct TwistRank<const N: usize, const BASE: usize>;
 impl<const N: usize, const BASE: usize> TwistRank<N, BASE> {
     /// The number of a list of digits, below `BASE^(N - 1)`, for `N` and `BASE` from 1 to 12.
     #[inline]
+    #[tactic(auto, using(crate::proofs::Cited::twist_rank_rank))]
     pub fn rank(value: &[u8; N]) -> u128
         requires size { (1 ≤ N) × (N ≤ 12) }
         requires base { (1 ≤ BASE) × (BASE ≤ 12) }
@@ -59,6 +61,7 @@ impl<const N: usize, const BASE: usize> TwistRank<N, BASE> {
 
     /// The list of digits with a number below `BASE^(N - 1)`, for `N` and `BASE` from 1 to 12.
     #[inline]
+    #[tactic(auto, using(crate::proofs::Cited::twist_rank_unrank))]
     pub fn unrank(number: u128) -> [u8; N]
         requires size { (1 ≤ N) × (N ≤ 12) }
         requires base { (1 ≤ BASE) × (BASE ≤ 12) }

@@ -21,6 +21,7 @@ impl<const D: usize> Model for MixedRadix<D> {
 
 impl<const D: usize> MixedRadix<D> {
     /// The lists over these bases. Each base is at least 1, and their product is at most `2^96`.
+    #[tactic(auto, using(crate::proofs::Cited::new))]
     pub fn new(bases: [u128; D]) -> MixedRadix<D>
         requires some { All (λ base. 1 ≤ base) bases }
         requires fits { product bases ≤ 2 ^ 96 }
@@ -39,6 +40,7 @@ impl<const D: usize> MixedRadix<D> {
     }
 
     /// The number of a list of digits, below `count`.
+    #[tactic(auto, using(crate::proofs::Cited::mixed_radix_rank))]
     pub fn rank(&self, value: &[u128; D]) -> u128
         requires valid { AreDigits self.now value.now }
         ensures number { result ≡ mixed_number self.now value.now }
@@ -48,6 +50,7 @@ impl<const D: usize> MixedRadix<D> {
     }
 
     /// The list of digits with a number below `count`.
+    #[tactic(auto, using(crate::proofs::Cited::mixed_radix_unrank))]
     pub fn unrank(&self, number: u128) -> [u128; D]
         requires below { number < product self.now }
         ensures list { result ≡ mixed_digits self.now number }
@@ -65,6 +68,7 @@ impl<const D: usize> MixedRadix<D> {
 }
 
 /// The product of `bases`.
+#[tactic(auto, using(crate::proofs::Cited::product_of))]
 fn product_of(bases: &[u128]) -> u128
     requires some { 0 < product bases.now }
     requires fits { product bases.now ≤ 2 ^ 96 }
@@ -78,6 +82,7 @@ fn product_of(bases: &[u128]) -> u128
 }
 
 /// The number that mixed digits write, the first digit the least.
+#[tactic(auto, using(crate::proofs::Cited::rank_digits))]
 fn rank_digits(bases: &[u128], digits: &[u128]) -> u128
     requires fits { product bases.now ≤ 2 ^ 96 }
     requires some { 0 < product bases.now }
@@ -92,6 +97,7 @@ fn rank_digits(bases: &[u128], digits: &[u128]) -> u128
 }
 
 /// Fills `out` with the mixed digits that write `number`, the first digit the least.
+#[tactic(auto, using(crate::proofs::Cited::unrank_digits))]
 fn unrank_digits(bases: &[u128], number: u128, out: &mut [u128])
     requires same_length { length out.old ≡ length bases.now }
     requires below { number < product bases.now }

@@ -28,6 +28,7 @@ fn place_among_others(partner: u8, place: u8) -> u8
 }
 
 /// The pairing of two places more than `rest` pairs, in which the first place has the partner `partner + 1`.
+#[tactic(auto, using(crate::proofs::Cited::with_first_pair))]
 fn with_first_pair(rest: &[u8; PLACES], places: usize, partner: u8) -> [u8; PLACES]
     requires room { places + 2 ≤ 8 }
     requires partner { partner ≤ places }
@@ -44,6 +45,7 @@ fn with_first_pair(rest: &[u8; PLACES], places: usize, partner: u8) -> [u8; PLAC
 }
 
 /// How the places are paired but for the first one and its partner, counted without these two.
+#[tactic(auto, using(crate::proofs::Cited::without_first_pair))]
 fn without_first_pair(partners: &[u8; PLACES], places: usize) -> [u8; PLACES]
     requires room { places + 2 ≤ 8 }
     requires valid { IsPairing (places + 2) (take (places + 2) partners.now) }
@@ -60,6 +62,7 @@ fn without_first_pair(partners: &[u8; PLACES], places: usize) -> [u8; PLACES]
 }
 
 /// The number of a pairing of eight places.
+#[tactic(auto, using(crate::proofs::Cited::rank_pairing))]
 fn rank_pairing(partners: &[u8; PLACES]) -> u8
     requires { IsPairing 8 partners.now }
     ensures number { result ≡ pairing_number 4 partners.now }
@@ -76,6 +79,7 @@ fn rank_pairing(partners: &[u8; PLACES]) -> u8
 }
 
 /// The pairing of eight places that has this number.
+#[tactic(auto, using(crate::proofs::Cited::unrank_pairing), unfolding(scr_combinatorics::specs::Pairings::pairing_at))]
 fn unrank_pairing(number: u8) -> [u8; PLACES]
     requires { number < 105 }
     ensures { result ≡ pairing_at 4 number }
@@ -104,6 +108,7 @@ impl Pairing8 {
     }
 
     /// The pairing with a number below 105: `unrank` undoes `rank`.
+    #[tactic(auto, using(crate::proofs::Cited::pairing8_unrank))]
     pub fn unrank(number: u128) -> [u8; 8]
         requires below { number < 105 }
         ensures list { result ≡ pairing_at 4 number }

@@ -31,6 +31,7 @@ fn count_lesser(list: &[u8], number: u8) -> usize
 
 /// Raises each number of `list` from `first` on by one, which makes room for `first`.
 #[inline]
+#[tactic(auto, using(crate::proofs::Cited::raise_from))]
 fn raise_from(list: &mut [u8], first: u8)
     requires { All (λ number. number < 255) list.old }
     ensures { list.new ≡ map (nth_except first) list.old }
@@ -43,6 +44,7 @@ fn raise_from(list: &mut [u8], first: u8)
 }
 
 /// Whether a list is odd: an odd number of its pairs of places stand in falling order.
+#[tactic(auto, using(crate::proofs::Cited::is_odd))]
 pub fn is_odd(list: &[u8]) -> bool
     requires { length list.now < 2 ^ 16 }
     ensures { IsTrue result ↔ (parity list.now ≡ 1) }
@@ -72,6 +74,7 @@ pub fn rank_permutation(list: &[u8]) -> u64
 
 /// Fills `out` with the permutation of the numbers below its length, up to 12, that has this number.
 #[inline]
+#[tactic(auto, using(crate::proofs::Cited::unrank_permutation))]
 pub fn unrank_permutation(number: u64, out: &mut [u8])
     requires few { length out.old ≤ 12 }
     requires below { number < factorial (length out.old) }
@@ -92,6 +95,7 @@ pub fn unrank_permutation(number: u64, out: &mut [u8])
 
 /// Fills `out` with the permutation of a wanted parity among those numbered `2 * number` and
 /// `2 * number + 1`, which differ in the order of their last two numbers.
+#[tactic(auto, using(crate::proofs::Cited::unrank_with_parity))]
 pub fn unrank_with_parity(number: u64, odd: bool, out: &mut [u8])
     requires few { length out.old ≤ 12 }
     requires below { number < factorial (length out.old) / 2 }
@@ -113,6 +117,7 @@ pub struct PermRank<const N: usize>;
 impl<const N: usize> PermRank<N> {
     /// The number of a permutation, below `N!`, for `N` up to 12.
     #[inline]
+    #[tactic(auto, using(crate::proofs::Cited::perm_rank_rank))]
     pub fn rank(value: &[u8; N]) -> u128
         requires size { N ≤ 12 }
         requires valid { IsPermutation N value.now }
@@ -124,6 +129,7 @@ impl<const N: usize> PermRank<N> {
 
     /// The permutation with a number below `N!`, for `N` up to 12: `unrank` undoes `rank`.
     #[inline]
+    #[tactic(auto, using(crate::proofs::Cited::perm_rank_unrank))]
     pub fn unrank(number: u128) -> [u8; N]
         requires size { N ≤ 12 }
         requires below { number < factorial N }
@@ -145,6 +151,7 @@ pub struct EvenPermRank<const N: usize>;
 
 impl<const N: usize> EvenPermRank<N> {
     /// The number of an even permutation, below `N! / 2`, for `N` from 2 to 12.
+    #[tactic(auto, using(scr_combinatorics::proofs::Halves::half_lt))]
     pub fn rank(value: &[u8; N]) -> u128
         requires size { (2 ≤ N) × (N ≤ 12) }
         requires valid { IsPermutation N value.now }
@@ -156,6 +163,7 @@ impl<const N: usize> EvenPermRank<N> {
     }
 
     /// The even permutation with a number below `N! / 2`, for `N` from 2 to 12.
+    #[tactic(auto, using(crate::proofs::Cited::even_perm_rank_unrank))]
     pub fn unrank(number: u128) -> [u8; N]
         requires size { (2 ≤ N) × (N ≤ 12) }
         requires below { number < factorial N / 2 }

@@ -3,6 +3,7 @@ ghost use Rattle.std.specs.Prelude.{◌≡◌, ℕ, ◌<◌, ◌≤◌, List, le
 ghost use Rattle.scr_combinatorics.specs.PlaceSets.{binomial, IsPlaceSet, place_set_number, place_set_at};
 
 /// How many sets of `size` of `places` places there are, for up to 12 places.
+#[tactic(auto, using(crate::proofs::Cited::count_sets))]
 pub fn count_sets(places: usize, size: usize) -> u64
     requires { places ≤ 12 }
     ensures { result ≡ binomial places size }
@@ -18,6 +19,7 @@ pub fn count_sets(places: usize, size: usize) -> u64
 }
 
 /// The number of a set of places, an increasing list, in dictionary order from 0.
+#[tactic(auto, using(crate::proofs::Cited::rank_place_set))]
 pub fn rank_place_set(set: &[u8], places: usize) -> u64
     requires few { places ≤ 12 }
     requires valid { IsPlaceSet places (length set.now) set.now }
@@ -40,6 +42,7 @@ pub fn rank_place_set(set: &[u8], places: usize) -> u64
 }
 
 /// Fills `out` with the set of as many places that has this number, in increasing order.
+#[tactic(auto, using(crate::proofs::Cited::unrank_place_set))]
 pub fn unrank_place_set(number: u64, places: usize, out: &mut [u8])
     requires few { places ≤ 12 }
     requires below { number < binomial places (length out.old) }
@@ -68,6 +71,7 @@ pub struct Choose<const N: usize, const K: usize>;
 
 impl<const N: usize, const K: usize> Choose<N, K> {
     /// The number of a set, below `N` over `K`, for `N` up to 12.
+    #[tactic(auto, using(crate::proofs::Cited::choose_rank))]
     pub fn rank(value: &[u8; K]) -> u128
         requires size { N ≤ 12 }
         requires valid { IsPlaceSet N K value.now }
@@ -78,6 +82,7 @@ impl<const N: usize, const K: usize> Choose<N, K> {
     }
 
     /// The set with a number below `N` over `K`, for `N` up to 12.
+    #[tactic(auto, using(crate::proofs::Cited::choose_unrank))]
     pub fn unrank(number: u128) -> [u8; K]
         requires size { N ≤ 12 }
         requires below { number < binomial N K }

@@ -1,18 +1,17 @@
-use Rattle.std.proofs.Common.{◌≡◌, ◌-◌, ◌*◌, ◌<◌, ◌↔◌, ℕ, Bool, true, false, not, cond, inl, inr, List, length, refl, sym, ◌∙◌, arith}
+use Rattle.std.proofs.Common.{◌≡◌, ◌-◌, ◌*◌, ◌<◌, ◌↔◌, ℕ, Bool, true, false, not, cond, List, length, refl, sym, ◌∙◌, arith}
 use Rattle.std.proofs.lemmas.Bool.{cases_eq, false≢true}
 use Rattle.std.specs.Bool.{beq}
 use Rattle.std.specs.List.{swap}
 use Rattle.scr_combinatorics.specs.Permutations.{IsPermutation, parity, permutation_number}
 use Rattle.scr_combinatorics.proofs.Halves.{IsHalf, IsHalf-last_swapped, half_at-only, two_from_half}
-use Rattle.scr_rank.proofs.PermutationSteps.{factorial-small, swap-last}
+use Rattle.scr_rank.proofs.PermutationSteps.{swap-last}
 use Rattle.scr_rank.proofs.permutations.unrank_with_parity.Goals as goal
 
 -- a parity that is found, and one that is wanted
 same_parity : (found odd : Bool) (p : ℕ) → p < 2 → ((found ≡ true) ↔ (p ≡ 1)) → not (beq found odd) ≡ false
     → p ≡ cond odd 1 0
 same_parity true true p low h same = h.0 refl
-same_parity false false p low h same =
-    elim (cases_eq p 1) [ inl one ↦ absurd (false≢true (h.1 one)) | inr other ↦ omega arith ]
+same_parity false false p low h same = grind (arith, cases_eq, false≢true)
 same_parity true false p low h same = absurd (false≢true (sym same))
 same_parity false true p low h same = absurd (false≢true (sym same))
 
@@ -21,17 +20,12 @@ other_parity : (found odd : Bool) (p : ℕ) → p < 2 → ((found ≡ true) ↔ 
 other_parity true true p low h differ = absurd (false≢true differ)
 other_parity false false p low h differ = absurd (false≢true differ)
 other_parity true false p low h differ = omega (arith, h.0 refl)
-other_parity false true p low h differ =
-    elim (cases_eq p 1) [ inl one ↦ absurd (false≢true (h.1 one)) | inr other ↦ omega arith ]
+other_parity false true p low h differ = grind (arith, cases_eq, false≢true)
 
 -- the first of the two permutations, where it has the parity, and the other, where it hasn't
 module _ (n half : ℕ) (found odd : Bool) (xs : List ℕ) (valid : IsPermutation n xs) (number : permutation_number xs ≡ 2 * half) (tells : (found ≡ true) ↔ (parity xs ≡ 1)) where
   first_half : not (beq found odd) ≡ false → IsHalf n (cond odd 1 0) half xs
-  first_half same = record {
-    permutation = valid;
-    same_parity = same_parity found odd (parity xs) (omega arith) tells same;
-    number = omega (arith, number);
-  }
+  first_half same = grind (arith, same_parity)
 
   other_half : 1 < n → not (beq found odd) ≡ true → (ys : List ℕ) → ys ≡ swap xs (length xs - 1 - 1) (length xs - 1)
       → IsHalf n (cond odd 1 0) half ys
@@ -40,9 +34,6 @@ module _ (n half : ℕ) (found odd : Bool) (xs : List ℕ) (valid : IsPermutatio
       rw (swapped ∙ swap-last xs _ _ (omega (arith, valid.size)) refl refl, ← other_parity found odd (parity xs) (omega arith) tells differ)
       (IsHalf-last_swapped n (parity xs) half xs few own)
 
-pub overflow_mul-number : goal.overflow_mul-number
-overflow_mul-number c = let n = length c.args.out.now in omega (arith, factorial-small n c.requires.few, c.requires.below)
-
 pub returns-then-is_odd-odd : goal.returns-then-is_odd-odd
 returns-then-is_odd-odd c =
     let n = length c.args.out.now in
@@ -50,11 +41,3 @@ returns-then-is_odd-odd c =
     let h = other_half n c.args.number c.is_odd.result c.args.odd c.unrank_permutation.new.out c.unrank_permutation.ensures.valid
     c.unrank_permutation.ensures.number c.is_odd.ensures few c.if-is_odd-odd.true c.swap.new.self c.swap.ensures.after in
     record { list = half_at-only n (cond c.args.odd 1 0) c.args.number c.swap.new.self few h; valid = h.permutation; parity = h.same_parity; number = h.number }
-
-pub returns-else-is_odd-odd : goal.returns-else-is_odd-odd
-returns-else-is_odd-odd c =
-    let n = length c.args.out.now in
-    let few = two_from_half n c.args.number c.requires.below in
-    let h = first_half n c.args.number c.is_odd.result c.args.odd c.unrank_permutation.new.out c.unrank_permutation.ensures.valid
-    c.unrank_permutation.ensures.number c.is_odd.ensures c.if-is_odd-odd.false in
-    record { list = half_at-only n (cond c.args.odd 1 0) c.args.number c.unrank_permutation.new.out few h; valid = h.permutation; parity = h.same_parity; number = h.number }

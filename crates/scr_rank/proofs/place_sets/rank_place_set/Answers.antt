@@ -1,11 +1,8 @@
 use Rattle.std.proofs.Common.{◌≡◌, ◌+◌, ◌-◌, ◌<◌, length, slice_index, ap, ◌∙◌, arith}
 use Rattle.scr_combinatorics.specs.PlaceSets.{binomial}
-use Rattle.scr_rank.proofs.PlaceSetSteps.{ranked_start, ranked_next, next_size, rank_here, rank_past, rank_small, rest_number}
+use Rattle.scr_rank.proofs.PlaceSetSteps.{ranked_next, next_size, rank_here, rank_past, rank_small, rest_number}
 use Rattle.scr_rank.proofs.place_sets.rank_place_set.Goals as goal
 use Rattle.scr_rank.proofs.place_sets.rank_place_set.Goals.{then-passed-set+then-set-passed, else-passed-set, else-passed-set-via-then-passed-set+else-set-passed, else-passed-set-via-else-passed-set}
-
-pub loop-place-init : goal.loop-place-init
-loop-place-init c = ranked_start c.args.set.now c.args.places c.count_sets-sets.result c.count_sets-sets.ensures
 
 pub overflow_mul-with_place : goal.overflow_mul-with_place
 overflow_mul-with_place c = omega (arith, (ranked_next c.requires.few c.requires.valid c.loop-place-test.true c.loop-place.invariant).small)
