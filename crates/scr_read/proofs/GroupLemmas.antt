@@ -1,7 +1,7 @@
 -- The groups that are left of a sheet.
-use Rattle.std.proofs.Common.{◌≡◌, ℕ, suc, ◌+◌, ◌-◌, ◌*◌, ◌<◌, ◌≤◌, List, [], ◌∷◌, ◌++◌, length, map, refl, sym, ap, subst, ◌∙◌, arith, append_assoc, length-append}
+use Rattle.std.proofs.Common.{◌≡◌, ℕ, suc, ◌+◌, ◌-◌, ◌*◌, ◌<◌, ◌≤◌, List, [], ◌∷◌, ◌++◌, length, map, refl, sym, ap, subst, ◌∙◌, arith, append_assoc, length-append, rules}
 use Rattle.std.specs.Prelude.{All}
-use Rattle.std.proofs.lemmas.List.Elements.{All-nil, All-cons, All-head, All-tail}
+use Rattle.std.proofs.lemmas.List.Elements.{All-nil, All-head, All-tail, All-map}
 use Rattle.scr_notation.specs.declared.event.Event.{Event}
 use Rattle.scr_notation.specs.declared.turn.Turn.{Turn}
 use Rattle.scr_notation.specs.Written.{Written, IsWritten}
@@ -28,23 +28,16 @@ pub scrambles-are : (event : Event) (scrambles : List Written) → All (IsScramb
     → scrambles ≡ scrambles_of event (turns_of scrambles)
 scrambles-are event [] all = refl
 scrambles-are event (s ∷ scrambles) all =
-    let first = All-head (IsScrambleOf event) s scrambles all in
-    let here = own_scramble s event first.1 in
-    let others = scrambles-are event scrambles (All-tail (IsScrambleOf event) s scrambles all) in
-    ap (λ x. x ∷ scrambles) here ∙ ap (λ x. record { event = event; turns = s.turns } ∷ x) others
+    let more = scrambles-are event scrambles (All-tail (IsScrambleOf event) s scrambles all) in
+    grind (arith, All-head, own_scramble, All-tail)
 
 pub turns-are : (event : Event) (scrambles : List Written) → All (IsScrambleOf event) scrambles → All (IsOf event) (turns_of scrambles)
-turns-are event [] all = All-nil (IsOf event)
-turns-are event (s ∷ scrambles) all =
-    let first = All-head (IsScrambleOf event) s scrambles all in
-    All-cons (IsOf event) s.turns (turns_of scrambles) (subst IsWritten (own_scramble s event first.1) first.0)
-    (turns-are event scrambles (All-tail (IsScrambleOf event) s scrambles all))
+turns-are event scrambles all =
+    All-map (IsOf event) (λ (s : Written). s.turns) scrambles
+    (λ k d below. let it = all k d below in subst IsWritten (own_scramble _ event it.1) it.0)
 
 pub all-scrambles_of : (event : Event) (group : List (List Turn)) → All (IsOf event) group → All (IsScrambleOf event) (scrambles_of event group)
-all-scrambles_of event [] all = All-nil (IsScrambleOf event)
-all-scrambles_of event (turns ∷ group) all =
-    All-cons (IsScrambleOf event) (record { event = event; turns = turns }) (scrambles_of event group) (All-head (IsOf event) turns group all, refl)
-    (all-scrambles_of event group (All-tail (IsOf event) turns group all))
+all-scrambles_of event group all = search (arith, rules, All-map)
 
 pub turns_of-scrambles_of : (event : Event) (group : List (List Turn)) → turns_of (scrambles_of event group) ≡ group
 turns_of-scrambles_of event [] = refl
@@ -59,66 +52,31 @@ slots_next-slots event (turns ∷ group) behind = ap (λ x. turns ∷ x) (slots_
 
 slots_passed : (begun : ℕ) (head : HeadOf) (lines : ℕ) (event : Event) (group : List (List Turn)) (pieces : List Piece)
     → groups_in begun head lines (slot_pieces event group ++ pieces) ≡ groups_in begun head (lines + length group) pieces
-slots_passed begun head lines event [] pieces =
-    let none : lines ≡ lines + 0 = omega arith in
-    ap (λ n. groups_in begun head n pieces) none
+slots_passed begun head lines event [] pieces = grind arith
 slots_passed begun head lines event (turns ∷ group) pieces =
-    let one : lines + 1 + length group ≡ lines + suc (length group) = omega arith in
-    slots_passed begun head (lines + 1) event group pieces ∙ ap (λ n. groups_in begun head n pieces) one
+    grind (arith, slots_passed begun head (lines + 1) event group pieces)
 
 -- a group and what is behind it
 pub group_in : (begun : ℕ) (head : HeadOf) (lines number : ℕ) (pieces : List Piece) (next : IsGroupNext head.event pieces)
     → groups_in begun head lines (piece.Group number ∷ pieces)
     ≡ record { round = begun - 1; head = head; number = number; line = lines + 1; scrambles = next.group }
     ∷ groups_in begun head (lines + 1 + (length next.group + 1)) next.behind
-group_in begun head lines number pieces next =
-    let end : lines + 1 + length next.group + 1 ≡ lines + 1 + (length next.group + 1) = omega arith in
-    ap (λ p. groups_in begun head lines (piece.Group number ∷ p)) next.pieces_are
-    ∙ ap
-    (λ g. record { round = begun - 1; head = head; number = number; line = lines + 1; scrambles = g }
-    ∷ groups_in begun head (lines + 1) (slot_pieces head.event next.group ++ piece.GroupEnd ∷ next.behind))
-    (slots_next-slots head.event next.group next.behind)
-    ∙ ap (λ g. record { round = begun - 1; head = head; number = number; line = lines + 1; scrambles = next.group } ∷ g)
-    (slots_passed begun head (lines + 1) head.event next.group (piece.GroupEnd ∷ next.behind)
-    ∙ ap (λ n. groups_in begun head n next.behind) end)
+group_in begun head lines number pieces next = grind (arith, slots_next-slots, slots_passed)
 
 own_groups : (begun : ℕ) (head : HeadOf) (lines number : ℕ) (groups : List (List (List Turn))) (pieces : List Piece)
     → groups_in begun head lines (group_pieces head.event number groups ++ pieces)
     ≡ groups_from (begun - 1) head number (lines + 1) groups ++ groups_in begun head (lines + lines_of_groups groups) pieces
-own_groups begun head lines number [] pieces =
-    let none : lines ≡ lines + 0 = omega arith in
-    ap (λ n. groups_in begun head n pieces) none
+own_groups begun head lines number [] pieces = grind arith
 own_groups begun head lines number (group ∷ groups) pieces =
-    let more = group_pieces head.event (number + 1) groups in
-    let slots = slot_pieces head.event group in
-    let first : GroupOf = record { round = begun - 1; head = head; number = number; line = lines + 1; scrambles = group } in
-    let passed : lines + 1 + length group + 1 ≡ lines + (length group + 2) = omega arith in
-    let name : lines + (length group + 2) + 1 ≡ lines + 1 + (length group + 2) = omega arith in
-    let end : lines + (length group + 2) + lines_of_groups groups ≡ lines + (length group + 2 + lines_of_groups groups) = omega arith in
-    let behind = own_groups begun head (lines + (length group + 2)) (number + 1) groups pieces in
-    ap (λ p. groups_in begun head lines (piece.Group number ∷ p)) (append_assoc slots (piece.GroupEnd ∷ more) pieces)
-    ∙ ap
-    (λ g. record { round = begun - 1; head = head; number = number; line = lines + 1; scrambles = g }
-    ∷ groups_in begun head (lines + 1) (slots ++ piece.GroupEnd ∷ (more ++ pieces)))
-    (slots_next-slots head.event group (more ++ pieces))
-    ∙ ap (λ g. first ∷ g)
-    (slots_passed begun head (lines + 1) head.event group (piece.GroupEnd ∷ (more ++ pieces))
-    ∙ ap (λ n. groups_in begun head n (more ++ pieces)) passed ∙ behind
-    ∙ ap (λ n. groups_from (begun - 1) head (number + 1) n groups ++ groups_in begun head (lines + (length group + 2) + lines_of_groups groups) pieces) name
-    ∙ ap (λ n. groups_from (begun - 1) head (number + 1) (lines + 1 + (length group + 2)) groups ++ groups_in begun head n pieces) end)
+    let more = own_groups begun head (lines + (length group + 2)) (number + 1) groups pieces in
+    grind (arith, append_assoc, slots_next-slots, slots_passed)
 
 groups_in-rounds : (begun : ℕ) (head : HeadOf) (lines : ℕ) (rounds : List SheetRound)
     → groups_in begun head lines (pieces_of rounds) ≡ groups_of_rounds begun (lines + 1) rounds
 groups_in-rounds begun head lines [] = refl
 groups_in-rounds begun head lines (round ∷ rounds) =
-    let number : begun + 1 - 1 ≡ begun = omega arith in
-    let behind : lines + 1 + lines_of_groups round.groups + 1 ≡ lines + 1 + 1 + lines_of_groups round.groups = omega arith in
-    own_groups (begun + 1) (head_of round) (lines + 1) 0 round.groups (pieces_of rounds)
-    ∙ ap (λ k. groups_from k (head_of round) 0 (lines + 1 + 1) round.groups
-    ++ groups_in (begun + 1) (head_of round) (lines + 1 + lines_of_groups round.groups) (pieces_of rounds)) number
-    ∙ ap (λ g. groups_from begun (head_of round) 0 (lines + 1 + 1) round.groups ++ g)
-    (groups_in-rounds (begun + 1) (head_of round) (lines + 1 + lines_of_groups round.groups) rounds
-    ∙ ap (λ n. groups_of_rounds (begun + 1) n rounds) behind)
+    let more = groups_in-rounds (begun + 1) (head_of round) (lines + 1 + lines_of_groups round.groups) rounds in
+    grind (arith, own_groups)
 
 -- ---- how many there are
 
@@ -132,19 +90,12 @@ few_in_rounds : (k line : ℕ) (rounds : List SheetRound) → All IsSheetRound r
     → length (groups_of_rounds k line rounds) ≤ 26 * length rounds
 few_in_rounds k line [] all = omega arith
 few_in_rounds k line (round ∷ rounds) all =
-    let own = groups_from k (head_of round) 0 (line + 1) round.groups in
-    let more = groups_of_rounds (k + 1) (line + 1 + lines_of_groups round.groups) rounds in
-    let most = (All-head IsSheetRound round rounds all).listed.few_groups in
-    let here = length-groups_from k (head_of round) 0 (line + 1) round.groups in
-    let behind = few_in_rounds (k + 1) (line + 1 + lines_of_groups round.groups) rounds (All-tail IsSheetRound round rounds all) in
-    let both = length-append own more in
-    omega (arith, most, here, behind, both)
+    let more =
+    few_in_rounds (k + 1) (line + 1 + lines_of_groups round.groups) rounds (All-tail IsSheetRound round rounds all) in
+    grind (arith, All-head, length-groups_from, All-tail, length-append)
 
 pub few_groups_of : (text : List ℕ) (rounds : List SheetRound) → IsSheet text rounds → length (groups_of rounds) ≤ 6656
-few_groups_of text rounds is =
-    let few = is.few in
-    let groups = few_in_rounds 0 1 rounds is.each in
-    omega (arith, few, groups)
+few_groups_of text rounds is = grind (arith, few_in_rounds)
 
 -- ---- what is left
 
@@ -273,8 +224,7 @@ nothing_else begun head x pieces left no_head no_group = from left.groups left.r
 
 pub name_read : {begun : ℕ} {head : HeadOf} {pieces behind : List Piece} {x : Piece} {number : ℕ} → IsLeft begun head pieces
     → pieces ≡ x ∷ behind → x ≡ piece.Group number → GroupComes begun head number behind
-name_read {begun} {head} {pieces} {behind} {x} {number} left given is =
-    group_comes begun head number behind (subst (IsLeft begun head) (given ∙ ap (λ p. p ∷ behind) is) left)
+name_read {begun} {head} {pieces} {behind} {x} {number} left given is = grind (arith, group_comes)
 
 pub head_read : {begun : ℕ} {head next : HeadOf} {pieces behind : List Piece} {x : Piece} → IsLeft begun head pieces
     → pieces ≡ x ∷ behind → x ≡ piece.Head next → RoundComes begun next behind
@@ -299,8 +249,7 @@ given_group begun head before after x number given is lines next group behind ro
 pub next_group : (begun : ℕ) (head next : HeadOf) (before after : PiecesLeft) (x : Piece) → before.pieces ≡ x ∷ after.pieces → x ≡ piece.Head next
     → after.lines ≡ before.lines + 1
     → groups_in begun head before.lines before.pieces ≡ groups_in (begun + 1) next after.lines after.pieces
-next_group begun head next before after x given is lines =
-    ap (groups_in begun head before.lines) (given ∙ ap (λ p. p ∷ after.pieces) is) ∙ ap (λ n. groups_in (begun + 1) next n after.pieces) (sym lines)
+next_group begun head next before after x given is lines = grind arith
 
 pub left_whole : {begun : ℕ} {head : HeadOf} {behind : List Piece} {after : PiecesLeft} {lines : ℕ} → IsLeft begun head behind
     → after ≡ record { pieces = behind; lines = lines } → IsLeft begun head after.pieces
@@ -308,7 +257,4 @@ left_whole {begun} {head} {behind} {after} {lines} left is = subst (λ (p : Piec
 
 pub all_groups : (text : List ℕ) (head : HeadOf) (left : PiecesLeft) (rounds : List SheetRound) → IsSheet text rounds
     → left ≡ record { pieces = pieces_of rounds; lines = 0 } → IsLeft 0 head left.pieces × (groups_in 0 head left.lines left.pieces ≡ groups_of rounds)
-all_groups text head left rounds sheet is = (
-  subst (λ (p : PiecesLeft). IsLeft 0 head p.pieces) (sym is) (left_of_sheet text head rounds sheet),
-  ap (λ (p : PiecesLeft). groups_in 0 head p.lines p.pieces) is ∙ groups_in-rounds 0 head 0 rounds,
-)
+all_groups text head left rounds sheet is = grind (arith, left_of_sheet, groups_in-rounds)

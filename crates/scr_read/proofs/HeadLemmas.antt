@@ -1,19 +1,19 @@
 -- A line is the head of at most one round.
-use Rattle.std.proofs.Common.{◌≡◌, ℕ, ◌+◌, ◌^◌, ◌<◌, ◌≤◌, ◌==◌, true, false, List, [], ◌∷◌, ◌++◌, Some, refl, sym, ap, subst, ◌∙◌, arith, append_assoc, leb-true}
-use Rattle.std.specs.Prelude.{Option, None, codes, find, nat_le}
+use Rattle.std.proofs.Common.{◌≡◌, ℕ, ◌+◌, ◌^◌, ◌<◌, ◌≤◌, ◌==◌, true, false, List, [], ◌∷◌, ◌++◌, Some, refl, sym, ap, ◌∙◌, arith, append_assoc, leb-true}
+use Rattle.std.specs.Prelude.{Option, None, codes, find}
 use Rattle.std.specs.Char.{is_ascii_digit}
 use Rattle.std.specs.Fmt.{decimal}
 use Rattle.std.specs.List.{list_any}
 use Rattle.std.specs.Str.{bytes_eq}
 use Rattle.std.proofs.lemmas.Bool.Decides.{nat_tests}
 use Rattle.std.proofs.lemmas.Fmt.{digits_decimal}
-use Rattle.std.proofs.lemmas.List.{append-nil}
+use Rattle.std.proofs.lemmas.List.{append-nil, append_cancel_left}
 use Rattle.std.proofs.lemmas.Option.{same_Some}
 use Rattle.scr_text.specs.Numbers.{number_of_text}
 use Rattle.scr_text.proofs.NumberLaws.{digits_model, number_of_text-decimal}
 use Rattle.scr_notation.specs.declared.event.Event.{Event}
 use Rattle.scr_notation.specs.declared.event.Minima.{Minima}
-use Rattle.scr_notation.specs.Event.{events, name_of, minima_of, greatest_of, greatest_in}
+use Rattle.scr_notation.specs.Event.{events, name_of, minima_of, greatest_in}
 use Rattle.scr_notation.proofs.EachEvent.{each_alike, each_passes}
 use Rattle.scr_round.specs.Round.{minimum_text, own_name_text, heading}
 use Rattle.scr_round.proofs.CleanLaws.{Lacks, apart, lacks_by}
@@ -24,13 +24,7 @@ use Rattle.scr_read.specs.Reading.{as_round, IsHeading}
 pub with_name : (k : ℕ) (event : Event) (least : ℕ) (name : List ℕ)
     → heading k (record { event = event; groups = 1; least = least; name = name })
     ≡ heading k (record { event = event; groups = 1; least = least; name = [] }) ++ own_name_text name
-with_name k event least name =
-    let bare = codes "Round " ++ decimal (k + 1) ++ codes ": " ++ name_of event ++ minimum_text (minima_of event) least in
-    ap (λ x. x ++ own_name_text name) (sym (append-nil bare))
-
-pub cancelled : (front xs ys : List ℕ) → front ++ xs ≡ front ++ ys → xs ≡ ys
-cancelled [] xs ys same = same
-cancelled (byte ∷ front) xs ys same = cancelled front xs ys (let rest : front ++ xs ≡ front ++ ys = cc in rest)
+with_name k event least name = grind (arith, append-nil)
 
 -- ---- events by their names
 
@@ -88,19 +82,18 @@ one_name (x ∷ a) (y ∷ b) same = cc
 one_minimum : (minima : Option Minima) (n m : ℕ) (a b : List ℕ) → n ≤ greatest_in minima → m ≤ greatest_in minima → greatest_in minima ≤ 15
     → minimum_rest minima n ++ own_name_text a ≡ minimum_rest minima m ++ own_name_text b → (n ≡ m) × (a ≡ b)
 unfolding minimum_rest
-one_minimum None n m a b few few' range same =
-    (omega (arith, few, few'), one_name a b (cancelled (codes " random moves") (own_name_text a) (own_name_text b) same))
+one_minimum None n m a b few few' range same = grind (arith, one_name, append_cancel_left)
 one_minimum (Some minima) n m a b few few' range same =
     let low : n < 2 ^ 64 = omega (arith, few, range) in
     let low' : m < 2 ^ 64 = omega (arith, few', range) in
     let behind : decimal n ++ own_name_text a ≡ decimal m ++ own_name_text b =
-    cancelled (codes " at least ") (decimal n ++ own_name_text a) (decimal m ++ own_name_text b) same in
+    append_cancel_left (codes " at least ") (decimal n ++ own_name_text a) (decimal m ++ own_name_text b) same in
     let ended : decimal n ++ 44 ∷ name_rest a ≡ decimal m ++ 44 ∷ name_rest b =
     ap (λ x. decimal n ++ x) (sym (name_comma a)) ∙ sym (append_assoc (decimal n) (own_name_text a) (44 ∷ []))
     ∙ ap (λ x. x ++ 44 ∷ []) behind ∙ append_assoc (decimal m) (own_name_text b) (44 ∷ []) ∙ ap (λ x. decimal m ++ x) (name_comma b) in
     let digits = (apart 44 (decimal n) (name_rest a) (decimal m) (name_rest b) refl (digits_no_comma n low) (digits_no_comma m low') ended).0 in
     let names : decimal n ++ own_name_text a ≡ decimal n ++ own_name_text b = behind ∙ ap (λ d. d ++ own_name_text b) (sym digits) in
-    (one_decimal n m low low' digits, one_name a b (cancelled (decimal n) (own_name_text a) (own_name_text b) names))
+    (one_decimal n m low low' digits, one_name a b (append_cancel_left (decimal n) _ _ names))
 
 -- ---- heads
 
@@ -110,31 +103,14 @@ tail_of head = minimum_rest (minima_of head.event) head.least ++ own_name_text h
 parts : (k : ℕ) (head : HeadOf) → heading k (as_round head)
     ≡ (codes "Round " ++ decimal (k + 1) ++ codes ": ") ++ (name_of head.event ++ 44 ∷ tail_of head)
 unfolding tail_of
-parts k head =
-    let front = codes "Round " ++ decimal (k + 1) ++ codes ": " in
-    let name = name_of head.event in
-    let minimum = minimum_text (minima_of head.event) head.least in
-    let own = own_name_text head.name in
-    append_assoc (front ++ name) minimum own ∙ append_assoc front name (minimum ++ own)
-    ∙ ap (λ x. front ++ (name ++ (x ++ own))) (minimum_comma (minima_of head.event) head.least)
+parts k head = grind (arith, append_assoc, minimum_comma)
 
 same_heads : (a b : HeadOf) → a.event ≡ b.event → a.least ≡ b.least → a.name ≡ b.name → a ≡ b
-same_heads a b event least name =
-    ap (λ x. record { event = x; least = a.least; name = a.name }) event
-    ∙ ap (λ x. record { event = b.event; least = x; name = a.name }) least
-    ∙ ap (λ x. record { event = b.event; least = b.least; name = x }) name
+same_heads a b event least name = grind arith
+
+ruleset of_heads = (parts, apart, no_comma, one_event, one_minimum, same_heads)
 
 pub one_head : (k : ℕ) (line : List ℕ) (a b : HeadOf) → IsHeading k line a → IsHeading k line b → a ≡ b
 unfolding tail_of
 one_head k line a b one other =
-    let front = codes "Round " ++ decimal (k + 1) ++ codes ": " in
-    let whole = sym (parts k a) ∙ sym one.is ∙ other.is ∙ parts k b in
-    let behind = cancelled front (name_of a.event ++ 44 ∷ tail_of a) (name_of b.event ++ 44 ∷ tail_of b) whole in
-    let cut = apart 44 (name_of a.event) (tail_of a) (name_of b.event) (tail_of b) refl (no_comma a.event) (no_comma b.event) behind in
-    let event = one_event a.event b.event cut.0 in
-    let range : greatest_of a.event ≤ 15 = leb-true (greatest_of a.event) 15 (each_passes (λ e. nat_le (greatest_of e) 15) refl a.event) in
-    let few : b.least ≤ greatest_of a.event = subst (λ e. b.least ≤ greatest_of e) (sym event) other.round.least in
-    let rest : minimum_rest (minima_of a.event) a.least ++ own_name_text a.name ≡ minimum_rest (minima_of a.event) b.least ++ own_name_text b.name =
-    cut.1 ∙ ap (λ e. minimum_rest (minima_of e) b.least ++ own_name_text b.name) (sym event) in
-    let same = one_minimum (minima_of a.event) a.least b.least a.name b.name one.round.least few range rest in
-    same_heads a b event same.0 same.1
+    grind (arith, of_heads, append_cancel_left, tail_of, leb-true, each_passes, minimum_rest)

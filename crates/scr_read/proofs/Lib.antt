@@ -11,3 +11,4 @@ pub mod LeftLemmas
 pub mod GroupLemmas
 pub mod SlotLemmas
 pub mod TellLemmas
+pub mod Cited

@@ -13,13 +13,11 @@ use Rattle.scr_read.specs.Faults.{IsOneLine}
 -- a text that is cut behind as many bytes as a front has begins with it where that part is the front
 pub front_before : (front text begin behind : List ℕ) → IsSplitAt text (length front) begin behind → begin ≡ front
     → text ≡ front ++ behind
-front_before front text begin behind split same =
-    sym (take-append-drop (length front) text) ∙ ap (λ x. x ++ drop (length front) text) (sym split.1 ∙ same) ∙ ap (λ x. front ++ x) (sym split.2)
+front_before front text begin behind split same = grind (arith, take-append-drop)
 
 pub no_front_before : (front text begin behind other : List ℕ) → IsSplitAt text (length front) begin behind
     → text ≡ front ++ other → (begin ≡ front → ⊥) → ⊥
-no_front_before front text begin behind other split is differs =
-    differs (split.1 ∙ ap (take (length front)) is ∙ take-append-le (length front) front other (omega arith) ∙ take_all (length front) front (omega arith))
+no_front_before front text begin behind other split is differs = grind (arith, take-append-le, take_all)
 
 -- none of the first bytes is a line feed
 one_line-front : (text : List ℕ) (n : ℕ) → ((k : ℕ) → k < n → is_line_feed (get_or text k 0) ≡ false) → n ≤ length text

@@ -1,5 +1,5 @@
 -- One step of a reader.
-use Rattle.std.proofs.Common.{◌≡◌, ℕ, ◌+◌, List, [], ◌∷◌, ◌++◌, Some, Ok, Err, refl, sym, subst}
+use Rattle.std.proofs.Common.{◌≡◌, ℕ, ◌+◌, List, [], ◌∷◌, ◌++◌, Some, Ok, Err, refl, sym, subst, arith}
 use Rattle.scr_read.specs.declared.fault.SheetCause.{SheetCause}
 use Rattle.scr_read.specs.declared.fault.SheetCause.TheVariants as cause
 use Rattle.scr_read.specs.declared.piece.Piece.{Piece}
@@ -39,22 +39,14 @@ cause_told : (place : Place) (rest line behind : List ℕ) (told : SheetCause) �
     → IsCauseAt place line told → IsCause place rest told
 cause_told place rest line behind cause.End one cut is = absurd (no_end place line is)
 cause_told place rest line behind cause.LineFeed one cut is = absurd (no_feed place line is)
-cause_told place rest line behind cause.Head one cut is = (line, behind, one, cut, is)
-cause_told place rest line behind cause.Group one cut is = (line, behind, one, cut, is)
-cause_told place rest line behind cause.Label one cut is = (line, behind, one, cut, is)
-cause_told place rest line behind cause.Scramble one cut is = (line, behind, one, cut, is)
-cause_told place rest line behind cause.GroupEnd one cut is = (line, behind, one, cut, is)
+cause_told place rest line behind told one cut is = (line, behind, one, cut, is)
 
 module _ (before : Reading) (place : Place) (rest line behind : List ℕ) (lines : ℕ)
     (view : record { place = place; rest = rest; lines = lines } ≡ before) (fit : IsFit place) (one : IsOneLine line)
     (cut : rest ≡ line ++ 10 ∷ behind) (told : SheetCause) (why : IsCauseAt place line told)
     (none : (x : Piece) (next : Place) → IsLine place line x next → ⊥) where
   pub refused : Reads before before (Err (record { line = lines + 1; cause = told }))
-  refused =
-      let P : Reading → Type 0 = λ r. Reads r r (Err (record { line = lines + 1; cause = told })) in
-      subst P view (bad_line place rest line behind fit one cut none, refl, cause_told place rest line behind told one cut why, refl)
+  refused = grind (arith, bad_line, cause_told)
 
   pub unread : (pieces : List Piece) → IsRead before.place before.rest pieces → ⊥
-  unread =
-      subst (λ (r : Reading). (pieces : List Piece) → IsRead r.place r.rest pieces → ⊥) view
-      (fault_unread place rest (bad_line place rest line behind fit one cut none))
+  unread = grind (arith, fault_unread, bad_line)

@@ -86,15 +86,11 @@ own_scramble s event is = ap (λ e. record { event = e; turns = s.turns }) is
 
 parse : (place : Place) (pieces : List Piece) (text : List ℕ) → IsFit place → rounds_begun place ≤ 256 → IsRead place text pieces
     → Parsed place text pieces
-parse Start [] text fit begun read =
-    record { rounds = []; text_is = read.1; pieces_are = refl; each = All-nil IsSheetRound; few = omega arith }
+parse Start [] text fit begun read = grind (arith, All-nil)
 parse Start (piece.Head head ∷ pieces) text fit begun read =
     let is = read.4 in
     let more = subst (λ n. IsRead n read.1 pieces) is.next_is read.5 in
     headed 0 text read.0 read.1 head pieces read.3 is.is_head (parse (Between 1 head.event 0) pieces read.1 (omega arith) (omega arith) more)
-parse Start (piece.Group n ∷ pieces) text fit begun read = absurd read.4
-parse Start (piece.Slot s ∷ pieces) text fit begun read = absurd read.4
-parse Start (piece.GroupEnd ∷ pieces) text fit begun read = absurd read.4
 parse (Between rounds event done) [] text fit begun read =
     let whole = read.0 in
     record {
@@ -149,12 +145,6 @@ parse (Between rounds event done) (piece.Group n ∷ pieces) text fit begun read
       each = it.each;
       few = it.few;
     }
-parse (Between rounds event done) (piece.Slot s ∷ pieces) text fit begun read = absurd read.4
-parse (Between rounds event done) (piece.GroupEnd ∷ pieces) text fit begun read = absurd read.4
-parse (InGroup rounds event done labels) [] text fit begun read = absurd read.0
-parse (InGroup rounds event done labels) (piece.Head head ∷ pieces) text fit begun read = absurd read.4.whole
-parse (InGroup rounds event done []) (piece.Group n ∷ pieces) text fit begun read = absurd read.4
-parse (InGroup rounds event done []) (piece.Slot s ∷ pieces) text fit begun read = absurd read.4
 parse (InGroup rounds event done []) (piece.GroupEnd ∷ pieces) text fit begun read =
     let is = read.4 in
     let below = fit.0 in
@@ -176,8 +166,6 @@ parse (InGroup rounds event done []) (piece.GroupEnd ∷ pieces) text fit begun 
       each = it.each;
       few = it.few;
     }
-parse (InGroup rounds event done (label ∷ labels)) (piece.Group n ∷ pieces) text fit begun read = absurd read.4
-parse (InGroup rounds event done (label ∷ labels)) (piece.GroupEnd ∷ pieces) text fit begun read = absurd read.4
 parse (InGroup rounds event done (label ∷ labels)) (piece.Slot s ∷ pieces) text fit begun read =
     let is = read.4 in
     let more = subst (λ p. IsRead p read.1 pieces) is.3 read.5 in
@@ -197,6 +185,7 @@ parse (InGroup rounds event done (label ∷ labels)) (piece.Slot s ∷ pieces) t
       each = it.each;
       few = it.few;
     }
+parse place pieces text fit begun read = search
 
 pub sheet_of : (text : List ℕ) (pieces : List Piece) → IsRead Start text pieces
     → (rounds : List SheetRound) × IsSheet text rounds × (pieces ≡ pieces_of rounds)
@@ -240,8 +229,7 @@ slots_left : (event : Event) (group : List (List Turn)) (pieces : List Piece)
     ≡ record { slots = group ++ (left_of pieces).slots; groups = (left_of pieces).groups; rounds = (left_of pieces).rounds }
 unfolding left_of left_with
 slots_left event [] pieces = refl
-slots_left event (turns ∷ group) pieces =
-    ap (λ (l : Left). left_with (piece.Slot (record { event = event; turns = turns })) l) (slots_left event group pieces)
+slots_left event (turns ∷ group) pieces = grind (arith, left_with, slots_left event group pieces)
 
 groups_left : (event : Event) (n : ℕ) (groups : List (List (List Turn))) (pieces : List Piece) (rounds : List SheetRound)
     → left_of pieces ≡ record { slots = []; groups = []; rounds = rounds }
@@ -249,12 +237,8 @@ groups_left : (event : Event) (n : ℕ) (groups : List (List (List Turn))) (piec
 unfolding left_of left_with
 groups_left event n [] pieces rounds is = is
 groups_left event n (group ∷ groups) pieces rounds is =
-    let more = group_pieces event (n + 1) groups in
-    let behind = groups_left event (n + 1) groups pieces rounds is in
-    ap (λ p. left_of (piece.Group n ∷ p)) (append_assoc (slot_pieces event group) (piece.GroupEnd ∷ more) pieces)
-    ∙ ap (left_with (piece.Group n)) (slots_left event group (piece.GroupEnd ∷ (more ++ pieces)))
-    ∙ ap (λ (l : Left). record { slots = []; groups = (group ++ []) ∷ l.groups; rounds = l.rounds }) behind
-    ∙ ap (λ g. record { slots = []; groups = g ∷ groups; rounds = rounds }) (append-nil group)
+    let more = groups_left event (n + 1) groups pieces rounds is in
+    grind (arith, left_of, append_assoc, left_with, slots_left, append-nil)
 
 rounds_left : (rounds : List SheetRound) → left_of (pieces_of rounds) ≡ record { slots = []; groups = []; rounds = rounds }
 unfolding left_of left_with

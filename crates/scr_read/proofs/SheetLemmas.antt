@@ -1,13 +1,13 @@
 -- A sheet is read as the pieces of its rounds.
-use Rattle.std.proofs.Common.{◌≡◌, ℕ, suc, ◌+◌, ◌<◌, ◌≤◌, List, [], ◌∷◌, ◌++◌, length, refl, sym, ap, subst, ◌∙◌, arith, append_assoc}
-use Rattle.std.specs.Prelude.{All, codes}
+use Rattle.std.proofs.Common.{◌≡◌, ℕ, suc, ◌+◌, ◌<◌, ◌≤◌, List, [], ◌∷◌, ◌++◌, length, refl, sym, ap, subst, arith, append_assoc}
+use Rattle.std.specs.Prelude.{All}
 use Rattle.std.proofs.lemmas.List.Elements.{All-head, All-tail}
 use Rattle.scr_notation.specs.declared.event.Event.{Event}
 use Rattle.scr_notation.specs.declared.turn.Turn.{Turn}
 use Rattle.scr_notation.specs.Event.{per_group_of}
 use Rattle.scr_notation.specs.Written.{IsWritten}
 use Rattle.scr_list.specs.Rounds.{IsRound}
-use Rattle.scr_round.specs.Round.{labels_from, heading}
+use Rattle.scr_round.specs.Round.{heading}
 use Rattle.scr_round.proofs.LineLaws.{length-labels_from}
 use Rattle.scr_read.specs.declared.piece.Piece.{Piece}
 use Rattle.scr_read.specs.declared.piece.Piece.TheVariants as piece
@@ -23,40 +23,24 @@ pub slots_read : (rounds : ℕ) (event : Event) (groups : ℕ) (labels : List (L
     → IsRead (InGroup rounds event groups []) rest pieces
     → IsRead (InGroup rounds event groups labels) (slots_text labels group rest) (slot_pieces event group ++ pieces)
 slots_read rounds event groups [] [] rest pieces size all read = read
-slots_read rounds event groups [] (turns ∷ group) rest pieces size all read = absurd (omega (arith, size))
-slots_read rounds event groups (label ∷ labels) [] rest pieces size all read = absurd (omega (arith, size))
-slots_read rounds event groups (label ∷ labels) (turns ∷ group) rest pieces size all read = (
-  label ++ Rattle.scr_notation.specs.Spelling.text_of turns,
-  slots_text labels group rest,
-  InGroup rounds event groups labels,
-  refl,
-  (All-head (IsOf event) turns group all, refl, refl, refl),
-  slots_read rounds event groups labels group rest pieces (omega (arith, size)) (All-tail (IsOf event) turns group all) read,
-)
+slots_read rounds event groups (label ∷ labels) (turns ∷ group) rest pieces size all read =
+    let others = All-tail (IsOf event) turns group all in
+    let more = slots_read rounds event groups labels group rest pieces (omega (arith, size)) others read in
+    grind (arith, slots_text, All-head, All-tail)
+slots_read rounds event groups labels group rest pieces size all read = absurd (omega (arith, size))
 
 pub group_read : (rounds : ℕ) (event : Event) (groups letter : ℕ) (group : List (List Turn)) (rest : List ℕ) (pieces : List Piece)
     → letter ≡ 65 + groups → groups < 26 → AreGroup event group → IsRead (Between rounds event (groups + 1)) rest pieces
     → IsRead (Between rounds event groups) (group_text (per_group_of event) letter group rest)
     (piece.Group groups ∷ slot_pieces event group ++ piece.GroupEnd ∷ pieces)
 group_read rounds event groups letter group rest pieces is few are read =
-    let own = per_group_of event in
-    let labels = labels_from 1 own in (
-      codes "Group " ++ letter ∷ [],
-      slots_text labels group ([] ++ 10 ∷ rest),
-      InGroup rounds event groups labels,
-      refl,
-      (refl, few, ap (λ l. codes "Group " ++ l ∷ []) is, refl),
-      slots_read rounds event groups labels group ([] ++ 10 ∷ rest) (piece.GroupEnd ∷ pieces) (are.each_slot ∙ sym (length-labels_from 1 own)) are.each
-          ([], rest, Between rounds event (groups + 1), refl, (refl, refl), read),
-    )
+    grind (arith, slots_text, slots_read, length-labels_from)
 
 pub groups_read : (rounds : ℕ) (event : Event) (done letter : ℕ) (groups : List (List (List Turn))) (rest : List ℕ) (pieces : List Piece)
     → letter ≡ 65 + done → done + length groups ≤ 26 → All (AreGroup event) groups
     → IsRead (Between rounds event (done + length groups)) rest pieces
     → IsRead (Between rounds event done) (groups_text (per_group_of event) letter groups rest) (group_pieces event done groups ++ pieces)
-groups_read rounds event done letter [] rest pieces is few all read =
-    let none : done + 0 ≡ done = omega arith in
-    subst (λ n. IsRead (Between rounds event n) rest pieces) none read
+groups_read rounds event done letter [] rest pieces is few all read = grind arith
 groups_read rounds event done letter (group ∷ groups) rest pieces is few all read =
     let next : done + suc (length groups) ≡ done + 1 + length groups = omega arith in
     let more = group_pieces event (done + 1) groups in
@@ -99,5 +83,4 @@ rounds_read place k (round ∷ rounds) whole begun few all =
     )
 
 pub sheet_read : (text : List ℕ) (rounds : List SheetRound) → IsSheet text rounds → IsRead Start text (pieces_of rounds)
-sheet_read text rounds is =
-    subst (λ t. IsRead Start t (pieces_of rounds)) (sym is.is) (rounds_read Start 0 rounds tt refl (let few = is.few in omega (arith, few)) is.each)
+sheet_read text rounds is = grind (arith, rounds_read)

@@ -1,7 +1,7 @@
 -- A line that may stand at a place is read in one way, and a text in one way.
-use Rattle.std.proofs.Common.{◌≡◌, ℕ, zero, suc, ◌+◌, ◌<◌, ◌≤◌, ◌==◌, Bool, true, false, List, [], ◌∷◌, ◌++◌, drop, get_or, refl, sym, ap, subst, ◌∙◌, arith, leb-true}
+use Rattle.std.proofs.Common.{◌≡◌, ℕ, ◌+◌, ◌<◌, ◌≤◌, List, [], ◌∷◌, ◌++◌, refl, sym, ap, subst, ◌∙◌, arith, leb-true}
 use Rattle.std.specs.Prelude.{All, codes, nat_le}
-use Rattle.std.specs.List.{list_any}
+use Rattle.std.proofs.lemmas.List.{append_cancel_left}
 use Rattle.std.proofs.lemmas.List.Elements.{All-head, All-tail}
 use Rattle.std.proofs.lemmas.List.Folds.{list_any-append}
 use Rattle.scr_notation.specs.declared.event.Event.{Event}
@@ -16,7 +16,7 @@ use Rattle.scr_read.specs.declared.piece.Piece.TheVariants as piece
 use Rattle.scr_read.specs.Heads.{HeadOf}
 use Rattle.scr_read.specs.Reading.{Place, Start, Between, InGroup, rounds_begun, IsWhole, as_round, IsHeadLine, IsLine, IsRead, IsAtFault}
 use Rattle.scr_read.specs.Faults.{IsOneLine}
-use Rattle.scr_read.proofs.HeadLemmas.{one_head, cancelled}
+use Rattle.scr_read.proofs.HeadLemmas.{one_head}
 
 -- ---- one reading of a line
 
@@ -27,47 +27,23 @@ same_head place line a b next other one two =
     (ap piece.Head same, one.next_is ∙ ap (λ (h : HeadOf). Between (rounds_begun place + 1) h.event 0) same ∙ sym two.next_is)
 
 no_head : (k : ℕ) (head : HeadOf) (line letters : List ℕ) → line ≡ heading k (as_round head) → line ≡ codes "Group " ++ letters → ⊥
-no_head k head line letters one two =
-    let first : 82 ≡ 71 = ap (λ l. get_or l 0 0) (sym one ∙ two) in
-    omega (arith, first)
+no_head k head line letters one two = grind arith
 
 pub one_line : (place : Place) (line : List ℕ) (x y : Piece) (next other : Place) → IsLine place line x next → IsLine place line y other
     → (x ≡ y) × (next ≡ other)
 one_line Start line (piece.Head a) (piece.Head b) next other one two = same_head Start line a b next other one two
-one_line Start line (piece.Head a) (piece.Group m) next other one two = absurd two
-one_line Start line (piece.Head a) (piece.Slot t) next other one two = absurd two
-one_line Start line (piece.Head a) piece.GroupEnd next other one two = absurd two
-one_line Start line (piece.Group n) y next other one two = absurd one
-one_line Start line (piece.Slot s) y next other one two = absurd one
-one_line Start line piece.GroupEnd y next other one two = absurd one
 one_line (Between rounds event groups) line (piece.Head a) (piece.Head b) next other one two =
     same_head (Between rounds event groups) line a b next other one two
 one_line (Between rounds event groups) line (piece.Head a) (piece.Group m) next other one two =
     absurd (no_head rounds a line ((65 + groups) ∷ []) one.is_head.is two.2)
-one_line (Between rounds event groups) line (piece.Head a) (piece.Slot t) next other one two = absurd two
-one_line (Between rounds event groups) line (piece.Head a) piece.GroupEnd next other one two = absurd two
 one_line (Between rounds event groups) line (piece.Group n) (piece.Head b) next other one two =
     absurd (no_head rounds b line ((65 + groups) ∷ []) two.is_head.is one.2)
-one_line (Between rounds event groups) line (piece.Group n) (piece.Group m) next other one two =
-    (ap piece.Group (one.0 ∙ sym two.0), one.3 ∙ sym two.3)
-one_line (Between rounds event groups) line (piece.Group n) (piece.Slot t) next other one two = absurd two
-one_line (Between rounds event groups) line (piece.Group n) piece.GroupEnd next other one two = absurd two
-one_line (Between rounds event groups) line (piece.Slot s) y next other one two = absurd one
-one_line (Between rounds event groups) line piece.GroupEnd y next other one two = absurd one
-one_line (InGroup rounds event groups labels) line (piece.Head a) y next other one two = absurd one.whole
-one_line (InGroup rounds event groups labels) line x (piece.Head b) next other one two = absurd two.whole
-one_line (InGroup rounds event groups []) line (piece.Group n) y next other one two = absurd one
-one_line (InGroup rounds event groups []) line (piece.Slot s) y next other one two = absurd one
-one_line (InGroup rounds event groups []) line piece.GroupEnd (piece.Group m) next other one two = absurd two
-one_line (InGroup rounds event groups []) line piece.GroupEnd (piece.Slot t) next other one two = absurd two
+one_line (Between rounds event groups) line (piece.Group n) (piece.Group m) next other one two = grind arith
 one_line (InGroup rounds event groups []) line piece.GroupEnd piece.GroupEnd next other one two = (refl, one.1 ∙ sym two.1)
-one_line (InGroup rounds event groups (label ∷ labels)) line (piece.Group n) y next other one two = absurd one
-one_line (InGroup rounds event groups (label ∷ labels)) line piece.GroupEnd y next other one two = absurd one
-one_line (InGroup rounds event groups (label ∷ labels)) line (piece.Slot s) (piece.Group m) next other one two = absurd two
-one_line (InGroup rounds event groups (label ∷ labels)) line (piece.Slot s) piece.GroupEnd next other one two = absurd two
 one_line (InGroup rounds event groups (label ∷ labels)) line (piece.Slot s) (piece.Slot t) next other one two =
-    let same = cancelled label (text_of t.turns) (text_of s.turns) (sym two.2 ∙ one.2) in
+    let same = append_cancel_left label (text_of t.turns) (text_of s.turns) (sym two.2 ∙ one.2) in
     (ap piece.Slot (one-scramble s t one.0 two.0 (two.1 ∙ sym one.1) same), one.3 ∙ sym two.3)
+one_line place line x y next other one two = search
 
 -- ---- lines have no line feed in them
 
@@ -82,52 +58,27 @@ labels-fit event =
     let few = leb-true (per_group_of event) 5 (each_passes (λ e. nat_le (per_group_of e) 5) refl event) in
     labels-clean 1 (per_group_of event) (omega (arith, few))
 
-pub All-drop : (n : ℕ) (texts : List (List ℕ)) → All IsOneLine texts → All IsOneLine (drop n texts)
-All-drop zero texts all = all
-All-drop (suc n) [] all = all
-All-drop (suc n) (text ∷ texts) all = All-drop n texts (All-tail IsOneLine text texts all)
-
 head-clean : (place : Place) (line : List ℕ) (head : HeadOf) (next : Place) → IsHeadLine place line head next → IsOneLine line
 head-clean place line head next is =
     subst IsOneLine (sym is.is_head.is) (heading-clean (rounds_begun place) (as_round head) is.few is.is_head.round)
 
 pub clean : (place : Place) (line : List ℕ) (x : Piece) (next : Place) → IsFit place → IsLine place line x next → IsOneLine line
 clean Start line (piece.Head a) next fit is = head-clean Start line a next is
-clean Start line (piece.Group n) next fit is = absurd is
-clean Start line (piece.Slot s) next fit is = absurd is
-clean Start line piece.GroupEnd next fit is = absurd is
 clean (Between rounds event groups) line (piece.Head a) next fit is = head-clean (Between rounds event groups) line a next is
-clean (Between rounds event groups) line (piece.Group n) next fit is =
-    subst IsOneLine (sym is.2) (joined (codes "Group ") ((65 + groups) ∷ []) refl (one-clean (65 + groups) (omega arith)))
-clean (Between rounds event groups) line (piece.Slot s) next fit is = absurd is
-clean (Between rounds event groups) line piece.GroupEnd next fit is = absurd is
-clean (InGroup rounds event groups labels) line (piece.Head a) next fit is = absurd is.whole
-clean (InGroup rounds event groups []) line (piece.Group n) next fit is = absurd is
-clean (InGroup rounds event groups []) line (piece.Slot s) next fit is = absurd is
+clean (Between rounds event groups) line (piece.Group n) next fit is = grind (arith, joined, one-clean)
 clean (InGroup rounds event groups []) line piece.GroupEnd next fit is = subst IsOneLine (sym is.0) refl
-clean (InGroup rounds event groups (label ∷ labels)) line (piece.Group n) next fit is = absurd is
 clean (InGroup rounds event groups (label ∷ labels)) line (piece.Slot s) next fit is =
     subst IsOneLine (sym is.2) (joined label (text_of s.turns) (All-head IsOneLine label labels fit.1) (text-clean s.turns))
-clean (InGroup rounds event groups (label ∷ labels)) line piece.GroupEnd next fit is = absurd is
+clean place line x next fit is = search
 
 pub fit_next : (place : Place) (line : List ℕ) (x : Piece) (next : Place) → IsFit place → IsLine place line x next → IsFit next
 fit_next Start line (piece.Head a) next fit is = subst IsFit (sym is.next_is) (omega arith)
-fit_next Start line (piece.Group n) next fit is = absurd is
-fit_next Start line (piece.Slot s) next fit is = absurd is
-fit_next Start line piece.GroupEnd next fit is = absurd is
 fit_next (Between rounds event groups) line (piece.Head a) next fit is = subst IsFit (sym is.next_is) (omega arith)
 fit_next (Between rounds event groups) line (piece.Group n) next fit is = subst IsFit (sym is.3) (is.1, labels-fit event)
-fit_next (Between rounds event groups) line (piece.Slot s) next fit is = absurd is
-fit_next (Between rounds event groups) line piece.GroupEnd next fit is = absurd is
-fit_next (InGroup rounds event groups labels) line (piece.Head a) next fit is = absurd is.whole
-fit_next (InGroup rounds event groups []) line (piece.Group n) next fit is = absurd is
-fit_next (InGroup rounds event groups []) line (piece.Slot s) next fit is = absurd is
-fit_next (InGroup rounds event groups []) line piece.GroupEnd next fit is =
-    let few = fit.0 in subst IsFit (sym is.1) (omega (arith, few))
-fit_next (InGroup rounds event groups (label ∷ labels)) line (piece.Group n) next fit is = absurd is
+fit_next (InGroup rounds event groups []) line piece.GroupEnd next fit is = grind arith
 fit_next (InGroup rounds event groups (label ∷ labels)) line (piece.Slot s) next fit is =
     subst IsFit (sym is.3) (fit.0, All-tail IsOneLine label labels fit.1)
-fit_next (InGroup rounds event groups (label ∷ labels)) line piece.GroupEnd next fit is = absurd is
+fit_next place line x next fit is = search
 
 -- ---- a text
 
@@ -137,11 +88,7 @@ no_end (byte ∷ line) behind is = cc
 
 -- a text without a line feed isn't cut
 pub not_cut : (text line behind : List ℕ) → IsOneLine text → text ≡ line ++ 10 ∷ behind → ⊥
-not_cut text line behind one is =
-    let d : ℕ → Bool = λ byte. byte == 10 in
-    let none = sym (ap (list_any d) is ∙ list_any-append d line (10 ∷ behind)) ∙ one in
-    let bad : true ≡ false = (either (list_any d line) true none).1 in
-    cc
+not_cut text line behind one is = grind (arith, list_any-append, either)
 
 -- what is left after a line that was read: the pieces behind the one that it was read as
 pub record GoesOn (piece : Piece) (next : Place) (behind : List ℕ) (pieces : List Piece) : Type 0 where
@@ -175,10 +122,7 @@ bad_line place rest line behind fit one cut none = record {
 }
 
 pub no_more : (place : Place) (rest : List ℕ) → IsOneLine rest → (IsWhole place → rest ≡ [] → ⊥) → IsAtFault place rest
-no_more place rest one none = record {
-  no_end = none;
-  no_line = λ line behind x next is of_place. not_cut rest line behind one is;
-}
+no_more place rest one none = grind (arith, no_end, not_cut)
 
 pub fault_unread : (place : Place) (rest : List ℕ) → IsAtFault place rest → (pieces : List Piece) → IsRead place rest pieces → ⊥
 fault_unread place rest fault [] read = fault.no_end read.0 read.1

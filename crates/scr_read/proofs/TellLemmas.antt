@@ -32,10 +32,7 @@ told_later : (k : ℕ) (head : HeadOf) (number line : ℕ) (groups : List (List 
 unfolding told_by told_with
 told_later k head number line [] tail = refl
 told_later k head number line (group ∷ groups) tail =
-    let behind = told_by (groups_from k head (number + 1 + 1) (line + (length group + 2)) groups ++ tail) in
-    ap (λ n. told_with n head group behind) (add-one number)
-    ∙ ap (λ (t : Told). record { groups = group ∷ t.groups; rounds = t.rounds })
-    (told_later k head (number + 1) (line + (length group + 2)) groups tail)
+    grind (arith, told_by, told_with, add-one, told_later k head (number + 1) (line + (length group + 2)) groups tail)
 
 told_round : (k line : ℕ) (round : SheetRound) (tail : List GroupOf) (rounds : List SheetRound) → 1 ≤ length round.groups
     → told_by tail ≡ record { groups = []; rounds = rounds }

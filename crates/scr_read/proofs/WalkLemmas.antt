@@ -36,8 +36,8 @@ walk_fit place (line ∷ lines) end fit walks =
 walk_clean : (place : Place) (lines : List (List ℕ)) (end : Place) → IsFit place → Walks place lines end → All IsOneLine lines
 walk_clean place [] end fit walks = All-nil IsOneLine
 walk_clean place (line ∷ lines) end fit walks =
-    All-cons IsOneLine line lines (clean place line walks.0 walks.1 fit walks.2)
-    (walk_clean walks.1 lines end (fit_next place line walks.0 walks.1 fit walks.2) walks.3)
+    let more = walk_clean walks.1 lines end (fit_next place line walks.0 walks.1 fit walks.2) walks.3 in
+    grind (arith, All-cons, clean, fit_next)
 
 walk_read : (place : Place) (lines : List (List ℕ)) (end : Place) (rest : List ℕ) (pieces : List Piece) → Walks place lines end
     → IsRead end rest pieces → (all : List Piece) × IsRead place (text_of_lines lines ++ rest) all
@@ -64,8 +64,7 @@ empties labels = map (λ label. []) labels
 empties_of : (event : Event) (labels : List (List ℕ)) → All (IsOf event) (empties labels)
 unfolding empties
 empties_of event [] = All-nil (IsOf event)
-empties_of event (label ∷ labels) =
-    All-cons (IsOf event) [] (empties labels) (record { room = lit≤ tt; permitted = All-nil _ }) (empties_of event labels)
+empties_of event (label ∷ labels) = grind (arith, All-cons, empties, All-nil, empties_of event labels)
 
 empties_size : (labels : List (List ℕ)) → length (empties labels) ≡ length labels
 unfolding empties
@@ -100,29 +99,13 @@ pub record HasRead (text : List ℕ) (reader : Reading) : Type 0 where
   pub walks : Walks Start before reader.place
 
 pub read_nothing : (text : List ℕ) (reader : Reading) → reader ≡ fresh text → HasRead text reader
-read_nothing text reader is =
-    subst (HasRead text) (sym is) (record { before = []; is = refl; count = refl; walks = refl })
+read_nothing text reader is = grind arith
 
 read_more : (text : List ℕ) (reader after : Reading) (x : Piece) → HasRead text reader → ReadsPiece reader after x → HasRead text after
-read_more text reader after x has it =
-    let number = has.count in
-    let one_more = it.lines in
-    let size = length-append has.before (it.line ∷ []) in
-    record {
-      before = has.before ++ it.line ∷ [];
-      is =
-          has.is ∙ ap (λ t. text_of_lines has.before ++ t) (it.rest ∙ sym (append_assoc it.line (10 ∷ []) after.rest))
-          ∙ sym (append_assoc (text_of_lines has.before) (it.line ++ 10 ∷ []) after.rest)
-          ∙ ap (λ t. t ++ after.rest) (sym (text_of_lines-append has.before (it.line ∷ [])));
-      count = omega (arith, number, one_more, size);
-      walks = walk_more Start has.before reader.place it.line x after.place has.walks it.is;
-    }
+read_more text reader after x has it = grind (arith, length-append, append_assoc, text_of_lines-append, walk_more)
 
 read_shorter : (reader after : Reading) (x : Piece) → ReadsPiece reader after x → length after.rest < length reader.rest
-read_shorter reader after x it =
-    let size = ap length it.rest in
-    let parts = length-append it.line (10 ∷ after.rest) in
-    omega (arith, size, parts)
+read_shorter reader after x it = grind (arith, length-append)
 
 read_all : (text : List ℕ) (reader : Reading) → HasRead text reader → IsRead reader.place reader.rest []
     → (rounds : List SheetRound) × IsSheet text rounds
@@ -133,8 +116,7 @@ read_all text reader has read =
 
 shared_unread : (place : Place) (rest other : List ℕ) → IsFit place → IsAtFault place rest → ShareFirstLine rest other
     → (pieces : List Piece) → IsRead place other pieces → ⊥
-shared_unread place rest other fit fault (inr same) pieces read =
-    fault_unread place rest fault pieces (subst (λ t. IsRead place t pieces) same.1 read)
+shared_unread place rest other fit fault (inr same) pieces read = grind (arith, fault_unread)
 shared_unread place rest other fit fault (inl share) [] read = no_end share.0 share.2 (sym read.1 ∙ share.5)
 shared_unread place rest other fit fault (inl share) (x ∷ pieces) read =
     let both = apart 10 share.0 share.2 read.0 read.1 refl share.3 (clean place read.0 x read.2 fit read.4) (sym share.5 ∙ read.3) in

@@ -100,6 +100,7 @@ fn read_name(pieces: &mut SheetPieces) -> u32
 }
 
 /// Reads a group of a round behind its name, which stands in this line.
+#[tactic(auto, using(crate::proofs::SlotLemmas::no_slots))]
 fn read_group(
     pieces: &mut SheetPieces,
     round: u32,

@@ -57,6 +57,7 @@ fn greatest_of(event: Event) -> u8
 }
 
 /// The name in the head of a round of this event with this minimum.
+#[tactic(auto, using(crate::proofs::Cited::read_name))]
 fn read_name(index: u32, event: Event, least: u8, line: &[u8]) -> Option<ArrayString<NAME_ROOM>>
     requires index { index < 256 }
     requires least { least ≤ greatest_of event }

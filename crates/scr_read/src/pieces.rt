@@ -45,6 +45,7 @@ impl<'t> SheetPieces<'t> {
     }
 
     /// Gives the next piece; `None` at the end of the sheet.
+    #[tactic(auto, using(crate::proofs::Cited::sheet_pieces_next))]
     pub(crate) fn next(&mut self) -> Option<Piece>
         ensures { GivesPiece self.old self.new result }
     {

@@ -86,6 +86,7 @@ impl<'a> SheetReader<'a> {
 
 /// Reads a text to its end, which has less than 2^32 - 1 bytes: whether it is a sheet, and else its first line at
 /// fault and its cause.
+#[tactic(auto, using(crate::proofs::Cited::read))]
 pub fn read(text: &[u8]) -> Result<(), SheetFault>
     requires { length text.now < 2 ^ 32 - 1 }
     ensures sheet { OnOk result ((rounds : List SheetRound) × IsSheet text.now rounds) }

@@ -4,11 +4,8 @@ use Rattle.scr_notation.specs.Event.{per_group_of}
 use Rattle.scr_read.specs.Heads.{HeadOf}
 use Rattle.scr_read.specs.Groups.{GroupOf}
 use Rattle.scr_read.proofs.GroupLemmas.{IsScrambleOf, turns_of}
-use Rattle.scr_read.proofs.SlotLemmas.{no_slots, comes, one_more, ends, each_read, turns_read, left_behind}
+use Rattle.scr_read.proofs.SlotLemmas.{comes, one_more, ends, each_read, turns_read, left_behind}
 use Rattle.scr_read.proofs.groups.read_group.Goals as goal
-
-pub loop-slot-init : goal.loop-slot-init
-loop-slot-init c = λ next. no_slots c.args.head.now.event c.args.pieces.now next c.from_fn-scrambles.result
 
 pub read_slot-requires : goal.read_slot-requires
 read_slot-requires c =

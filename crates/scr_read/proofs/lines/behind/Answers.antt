@@ -1,12 +1,7 @@
 use Rattle.std.proofs.Common.{sym, ◌∙◌}
 use Rattle.std.proofs.lemmas.Slice.Eq.{bytes_eq-Decides}
-use Rattle.scr_read.proofs.LineLemmas.{front_before, no_front_before}
+use Rattle.scr_read.proofs.LineLemmas.{no_front_before}
 use Rattle.scr_read.proofs.lines.behind.Goals as goal
-
-pub returns-then-eq : goal.returns-then-eq
-returns-then-eq c =
-    front_before c.args.front.now c.args.line.now c.in_ok-begin.begin.now c.in_ok-begin.behind.now c.in_ok-begin.ensures.cases
-    ((bytes_eq-Decides c.in_ok-begin.begin.now c.as_bytes.result.now).0 (sym c.eq.ensures ∙ c.if-eq.true) ∙ c.as_bytes.ensures.value)
 
 pub returns-else-eq : goal.returns-else-eq
 returns-else-eq c = λ begins.

@@ -1,13 +1,5 @@
-use Rattle.scr_read.proofs.WalkLemmas.{read_nothing, after_some, after_none, after_fault}
+use Rattle.scr_read.proofs.WalkLemmas.{after_none, after_fault}
 use Rattle.scr_read.proofs.reader.read.Goals as goal
-
-pub loop-piece-init : goal.loop-piece-init
-loop-piece-init c = read_nothing c.args.text.now c.new-reader.result c.new-reader.ensures
-
-pub loop-piece-preserved : goal.loop-piece-preserved
-loop-piece-preserved c =
-    after_some c.args.text.now c.loop-piece.reader c.next.new.self c.in-Ok-Some.field-0 c.in-Ok-Some._piece c.loop-piece.invariant
-    c.in-Ok-Some.ensures.reads c.in-Ok-Some.field-0-is
 
 pub returns-in-Ok-None-clause-sheet : goal.returns-in-Ok-None-clause-sheet
 returns-in-Ok-None-clause-sheet c =
