@@ -1,10 +1,10 @@
 -- The numbers of halves with so many corners, and so of shapes.
-use Rattle.std.proofs.Common.{◌≡◌, ℕ, zero, suc, ◌+◌, ◌-◌, ◌<◌, ◌≤◌, inl, inr, Bool, true, false, IsTrue, cond, not, List, [], ◌∷◌, ◌++◌, map, length, take, slice_index, refl, sym, ap, ◌∙◌, subst, arith}
+use Rattle.std.proofs.Common.{◌≡◌, ℕ, zero, suc, ◌+◌, ◌-◌, ◌<◌, ◌≤◌, inl, inr, IsTrue, cond, List, [], ◌∷◌, ◌++◌, map, length, take, slice_index, refl, sym, ap, ◌∙◌, subst, arith}
 use Rattle.std.proofs.lemmas.Bool.Decides.{nat_tests}
-use Rattle.std.specs.Prelude.{◌==◌, ◌&&◌, nat_le, nat_lt, filter, flat_map}
+use Rattle.std.specs.Prelude.{◌==◌, nat_le, nat_lt, filter, flat_map}
 use Rattle.std.specs.List.{list_all, position_or_len}
 use Rattle.std.specs.Str.{bytes_eq}
-use Rattle.std.proofs.lemmas.Bool.{cases_eq, cases_lt, lt-ltb, le-ltb, le-leb, lt-leb, eq-eqb, ne_eqb, ltb-true, cond-true, cond-false}
+use Rattle.std.proofs.lemmas.Bool.{cases_lt, lt-ltb, le-ltb, le-leb, lt-leb, eq-eqb, ne_eqb, ltb-true, cond-true, cond-false}
 use Rattle.std.proofs.lemmas.List.{length-append, length-map, take_all}
 use Rattle.std.proofs.lemmas.List.Elements.{All-nil, All-cons, All-head, All-tail, filter-append}
 use Rattle.scr_combinatorics.specs.Lists.{total, numbers_from, pick, ComesBefore}
@@ -27,10 +27,9 @@ module _ (f : ℕ → ℕ) where
   -- of two runs, the one behind begins no sooner than the one before ends
   pub total-runs : (ks : List ℕ) (i j : ℕ) → i < j → j ≤ length ks
       → total (map f (take i ks)) + f (slice_index ks i) ≤ total (map f (take j ks))
-  total-runs [] i j lt le = absurd (omega arith)
-  total-runs (k ∷ ks) i zero lt le = absurd (omega arith)
   total-runs (k ∷ ks) zero (suc j) lt le = omega arith
   total-runs (k ∷ ks) (suc i) (suc j) lt le = omega (arith, total-runs ks i j (omega arith) (omega arith))
+  total-runs _ i j lt le = absurd (omega arith)
 
   pub run_of-here : (k : ℕ) (ks : List ℕ) (r : ℕ) → r < f k → (let p : ℕ × ℕ = (0, r) in run_of f (k ∷ ks) r ≡ p)
   run_of-here k ks r lt = cond-true (nat_lt r (f k)) _ _ (lt-ltb r (f k) lt)
@@ -47,17 +46,7 @@ module _ (f : ℕ → ℕ) where
 
   pub run_of-falls : (ks : List ℕ) (r : ℕ) → r < total (map f ks) → FallsInto ks r (run_of f ks r)
   run_of-falls [] r lt = absurd (omega arith)
-  run_of-falls (k ∷ ks) r lt =
-      elim (cases_lt r (f k)) [
-        | inl here ↦ subst (FallsInto (k ∷ ks) r) (sym (run_of-here k ks r here)) (record { run = omega arith; inside = here; whole = omega arith })
-        | inr later ↦
-            let rest = run_of-falls ks (r - f k) (omega arith) in
-            subst (FallsInto (k ∷ ks) r) (sym (run_of-later k ks r later)) (record {
-              run = omega (arith, rest.run);
-              inside = rest.inside;
-              whole = omega (arith, rest.whole);
-            })
-      ]
+  run_of-falls (k ∷ ks) r lt = grind (arith, nat_tests, run_of-here, run_of-later, run_of-falls ks (r - f k))
 
   -- and where it falls is where it was put
   pub run_of-put : (ks : List ℕ) (i r : ℕ) → i < length ks → r < f (slice_index ks i)
@@ -148,8 +137,6 @@ run_within n c h lt few =
 pub halves_number-lt : (n c : ℕ) (hs : List ℕ) → AreHalves n c hs → halves_number c hs < ways_to_have n c
 unfolding halves_number
 halves_number-lt zero c [] a = omega (arith, ways-none c, cond-true {A = ℕ} (c == 0) 1 0 (eq-eqb c 0 (sym a.corners)))
-halves_number-lt zero c (h ∷ hs) a = absurd (omega (arith, a.size))
-halves_number-lt (suc n) c [] a = absurd (omega (arith, a.size))
 halves_number-lt (suc n) c (h ∷ hs) a =
     let s = StartsWith-halves n c h hs a in
     omega (
@@ -158,6 +145,7 @@ halves_number-lt (suc n) c (h ∷ hs) a =
       halves_number-lt n (c - corner_count h) hs s.others,
       run_within n c h s.below s.few,
     )
+halves_number-lt _ c _ a = absurd (omega (arith, a.size))
 
 -- ---- the halves of a number
 
@@ -214,8 +202,6 @@ HasNumber-at (suc n) c r lt =
 pub halves_at-number : (n c : ℕ) (hs : List ℕ) → AreHalves n c hs → halves_at n c (halves_number c hs) ≡ hs
 unfolding halves_at
 halves_at-number zero c [] a = refl
-halves_at-number zero c (h ∷ hs) a = absurd (omega (arith, a.size))
-halves_at-number (suc n) c [] a = absurd (omega (arith, a.size))
 halves_at-number (suc n) c (h ∷ hs) a =
     let s = StartsWith-halves n c h hs a in
     let rest : ℕ = halves_number (c - corner_count h) hs in
@@ -230,6 +216,7 @@ halves_at-number (suc n) c (h ∷ hs) a =
     ap (halves_at (suc n) c) (halves_number-cons n c h hs s.others.size)
     ∙ ap (λ p. p.0 ∷ halves_at n (c - corner_count p.0) p.1) (run_of-put f corner_counts h rest (omega (arith, length-corner_counts, s.below)) inside)
     ∙ ap (λ xs. h ∷ xs) (halves_at-number n (c - corner_count h) hs s.others)
+halves_at-number _ c _ a = absurd (omega (arith, a.size))
 
 -- ---- all lists of halves, in dictionary order
 
@@ -246,22 +233,7 @@ with_first c h xss = with_corners c (map (λ hs. h ∷ hs) xss)
 with_first-few : (c h : ℕ) (xss : List (List ℕ)) → corner_count h ≤ c
     → with_first c h xss ≡ map (λ hs. h ∷ hs) (with_corners (c - corner_count h) xss)
 with_first-few c h [] few = refl
-with_first-few c h (gs ∷ xss) few =
-    let k : ℕ = corner_count h in
-    let n : ℕ = total (pick corner_counts gs) in
-    let rest : List (List ℕ) = with_corners (c - k) xss in
-    let again = with_first-few c h xss few in
-    elim (cases_eq n (c - k)) [
-      | inl same ↦
-          cond-true (k + n == c) ((h ∷ gs) ∷ with_first c h xss) (with_first c h xss) (eq-eqb (k + n) c (omega (arith, same, few)))
-          ∙ ap (λ xs. (h ∷ gs) ∷ xs) again
-          ∙ sym (ap (map (λ hs. h ∷ hs)) (cond-true (n == c - k) (gs ∷ rest) rest (eq-eqb n (c - k) same)))
-      | inr other ↦
-          cond-false (k + n == c) ((h ∷ gs) ∷ with_first c h xss) (with_first c h xss)
-          (ne_eqb (k + n) c (λ same. other (omega (arith, same, few))))
-          ∙ again
-          ∙ sym (ap (map (λ hs. h ∷ hs)) (cond-false (n == c - k) (gs ∷ rest) rest (ne_eqb n (c - k) other)))
-    ]
+with_first-few c h (gs ∷ xss) few = grind (arith, nat_tests, eq-eqb, ne_eqb, with_first-few c h xss few)
 
 with_first-many : (c h : ℕ) (xss : List (List ℕ)) → c < corner_count h → with_first c h xss ≡ []
 with_first-many c h [] many = refl
@@ -280,27 +252,12 @@ place_of_same h hs (gs ∷ xss) = grind (arith, nat_tests, eq-eqb, place_of_same
 
 place_stays : (x : List ℕ) (xs ys : List (List ℕ)) → place_in x xs < length xs → place_in x (xs ++ ys) ≡ place_in x xs
 place_stays x [] ys lt = absurd (omega arith)
-place_stays x (y ∷ xs) ys lt =
-    stays (not (bytes_eq x y)) (place_in x xs) (place_in x (xs ++ ys)) (length xs) lt (place_stays x xs ys)
-  where
-    stays : (b : Bool) (p q n : ℕ) → cond b (1 + p) 0 < suc n → (p < n → q ≡ p)
-        → (let r : ℕ = cond b (1 + q) 0 in r ≡ cond b (1 + p) 0)
-    stays true p q n lt f = ap (λ z. 1 + z) (f (omega arith))
-    stays false p q n lt f = refl
+place_stays x (y ∷ xs) ys lt = grind (arith, nat_tests, place_stays x xs ys)
 
 place_behind : (c g h : ℕ) (hs : List ℕ) (xss ys : List (List ℕ)) → g < h
     → place_in (h ∷ hs) (with_first c g xss ++ ys) ≡ length (with_first c g xss) + place_in (h ∷ hs) ys
 place_behind c g h hs [] ys lt = omega arith
-place_behind c g h hs (gs ∷ xss) ys lt =
-    behind (total (pick corner_counts (g ∷ gs)) == c) (with_first c g xss) (place_behind c g h hs xss ys lt)
-  where
-    other : bytes_eq (h ∷ hs) (g ∷ gs) ≡ false
-    other = ap (λ b. b && bytes_eq hs gs) (ne_eqb h g (λ same. omega arith))
-
-    behind : (b : Bool) (r : List (List ℕ)) → place_in (h ∷ hs) (r ++ ys) ≡ length r + place_in (h ∷ hs) ys
-        → (let zs : List (List ℕ) = cond b ((g ∷ gs) ∷ r) r in place_in (h ∷ hs) (zs ++ ys) ≡ length zs + place_in (h ∷ hs) ys)
-    behind true r e = grind (arith, nat_tests, other)
-    behind false r e = e
+place_behind c g h hs (gs ∷ xss) ys lt = grind (arith, nat_tests, ne_eqb, place_behind c g h hs xss ys lt)
 
 -- from a first half on
 module _ (c : ℕ) (xss : List (List ℕ)) (f : ℕ → ℕ) (sizes : (h : ℕ) → length (with_first c h xss) ≡ f (corner_count h)) where
@@ -359,8 +316,6 @@ listed-place : (n c : ℕ) (hs : List ℕ) → AreHalves n c hs
     → place_in hs (with_corners c (words_of (numbers_from 0 13) n)) ≡ halves_number c hs
 unfolding words_of halves_number before
 listed-place zero c [] a = ap (place_in []) (cond-true (0 == c) ([] ∷ []) [] (eq-eqb 0 c a.corners))
-listed-place zero c (h ∷ hs) a = absurd (omega (arith, a.size))
-listed-place (suc n) c [] a = absurd (omega (arith, a.size))
 listed-place (suc n) c (h ∷ hs) a =
     let s = StartsWith-halves n c h hs a in
     let k : ℕ = corner_count h in
@@ -377,6 +332,7 @@ listed-place (suc n) c (h ∷ hs) a =
     ap (place_in (h ∷ hs)) (with_corners-flat c xss (numbers_from 0 13)) ∙ whole
     ∙ ap (λ p. numbers_before n c h + p) here
     ∙ sym (halves_number-cons n c h hs s.others.size)
+listed-place _ c _ a = absurd (omega (arith, a.size))
 
 -- ---- shapes
 

@@ -57,12 +57,9 @@ same_word (false ∷ v) (false ∷ w) = same_word v w
 pub same_word-true : (v w : List Bool) → IsTrue (same_word v w) → v ≡ w
 unfolding same_word
 same_word-true [] [] h = refl
-same_word-true [] (b ∷ w) h = absurd (false≢true h)
-same_word-true (b ∷ v) [] h = absurd (false≢true h)
 same_word-true (true ∷ v) (true ∷ w) h = ap (λ x. true ∷ x) (same_word-true v w h)
-same_word-true (true ∷ v) (false ∷ w) h = absurd (false≢true h)
-same_word-true (false ∷ v) (true ∷ w) h = absurd (false≢true h)
 same_word-true (false ∷ v) (false ∷ w) h = ap (λ x. false ∷ x) (same_word-true v w h)
+same_word-true _ _ h = absurd (false≢true h)
 
 -- a word has no more pieces than units
 length_le : (w : List Bool) → length w ≤ units_among w

@@ -13,13 +13,11 @@ use Rattle.scr_sq1.specs.Units.{Sq1State, IsSq1, is_corner, next_unit, previous_
 -- an element that stands at three places occurs three times
 pub occurrences-thrice : (xs : List ℕ) (i j k : ℕ) → i < j → j < k → k < length xs → slice_index xs i ≡ slice_index xs k
     → slice_index xs j ≡ slice_index xs k → 3 ≤ occurrences (slice_index xs k) xs
-occurrences-thrice [] i j k a b lt d e = absurd (omega arith)
-occurrences-thrice (x ∷ xs) i zero k a b lt d e = absurd (omega arith)
-occurrences-thrice (x ∷ xs) i (suc j) zero a b lt d e = absurd (omega arith)
 occurrences-thrice (x ∷ xs) zero (suc j) (suc k) a b lt d e =
     omega (arith, ap (λ z. occurrences z (x ∷ xs)) d, one_if-same x, ap (λ z. occurrences z xs) d, occurrences-twice xs j k (omega arith) (omega arith) e)
 occurrences-thrice (x ∷ xs) (suc i) (suc j) (suc k) a b lt d e =
     omega (arith, occurrences-thrice xs i j k (omega arith) (omega arith) (omega arith) d e)
+occurrences-thrice _ i j k a b lt d e = absurd (omega arith)
 
 -- the unit behind this one, or the one before, lies in the same half and is of the same piece
 abbrev pub HasPartner : List ℕ → ℕ → Type 0

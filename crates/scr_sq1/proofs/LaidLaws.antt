@@ -2,12 +2,10 @@
 use Rattle.std.proofs.Common.{◌≡◌, ℕ, zero, suc, ◌+◌, ◌-◌, ◌*◌, ◌<◌, ◌≤◌, ◌⊎◌, inl, inr, Bool, true, false, not, List, [], ◌∷◌, ◌++◌, map, length, slice_index, IsTrue, refl, sym, ap, ◌∙◌, arith}
 use Rattle.std.proofs.lemmas.Bool.Decides.{nat_tests}
 use Rattle.std.specs.Prelude.{◌==◌, All, filter}
-use Rattle.std.proofs.lemmas.Bool.{cases_lt, lt-ltb, le-ltb, cond-true, cond-false}
+use Rattle.std.proofs.lemmas.Bool.{cases_lt, lt-ltb, le-ltb}
 use Rattle.std.proofs.lemmas.List.Elements.{All-append, All-nil, All-cons, All-head, All-tail}
 use Rattle.std.proofs.lemmas.List.{length-append, ext_get_or}
-use Rattle.std.proofs.Math.Nat.{add-sub_cancel_left}
 use Rattle.scr_combinatorics.specs.Lists.{occurrences, pick}
-use Rattle.scr_combinatorics.proofs.Counts.{one_if}
 use Rattle.scr_combinatorics.proofs.Picks.{pick-at}
 use Rattle.scr_notation.specs.Ranges.{all_below}
 use Rattle.scr_notation.proofs.Below.{at_below}
@@ -34,16 +32,13 @@ module _ (P : List Bool → List ℕ → List ℕ → Type 0) (none : P [] [] []
     (edge : (w : List Bool) (e : ℕ) (cs es : List ℕ) → Fits w cs es → P w cs es → P (false ∷ w) cs (e ∷ es)) where
   pub by_pieces : (w : List Bool) (cs es : List ℕ) → Fits w cs es → P w cs es
   by_pieces [] [] [] f = none
-  by_pieces [] (c ∷ cs) es f = absurd (omega (arith, f.corners))
-  by_pieces [] [] (e ∷ es) f = absurd (omega (arith, f.edges))
-  by_pieces (true ∷ w) [] es f = absurd (omega (arith, f.corners))
   by_pieces (true ∷ w) (c ∷ cs) es f =
       let rest : Fits w cs es = record { corners = omega (arith, f.corners); edges = f.edges } in
       corner w c cs es rest (by_pieces w cs es rest)
-  by_pieces (false ∷ w) cs [] f = absurd (omega (arith, f.edges))
   by_pieces (false ∷ w) cs (e ∷ es) f =
       let rest : Fits w cs es = record { corners = f.corners; edges = omega (arith, f.edges) } in
       edge w e cs es rest (by_pieces w cs es rest)
+  by_pieces _ cs es f = absurd (omega (arith, f.corners, f.edges))
 
 pub length-laid : (w : List Bool) (cs es : List ℕ) → Fits w cs es → length (laid w cs es) ≡ units_among w
 length-laid =
@@ -86,10 +81,8 @@ every_second-at (x ∷ (y ∷ xs)) (suc i) =
 
 pub length-every_second : (n : ℕ) (xs : List ℕ) → length xs ≡ 2 * n → length (every_second xs) ≡ n
 length-every_second zero [] e = refl
-length-every_second zero (x ∷ xs) e = absurd (omega (arith, e))
-length-every_second (suc n) [] e = absurd (omega (arith, e))
-length-every_second (suc n) (x ∷ []) e = absurd (omega (arith, e))
 length-every_second (suc n) (x ∷ (y ∷ xs)) e = ap suc (length-every_second n xs (omega (arith, e)))
+length-every_second _ _ e = absurd (omega (arith, e))
 
 abbrev pub even_places : List ℕ
 even_places = 0 ∷ 2 ∷ 4 ∷ 6 ∷ 8 ∷ 10 ∷ 12 ∷ 14 ∷ []
@@ -112,43 +105,27 @@ pub length-corner_units : (w : List Bool) (cs es : List ℕ) → Fits w cs es �
 length-corner_units =
     by_pieces (λ w cs es. All (λ c. c < 8) cs → length (filter is_corner (laid w cs es)) ≡ 2 * length cs) (λ low. refl)
     (λ w c cs es f h low.
-    let is = corner_is c (All-head (λ x. x < 8) c cs low) in
-    let rest : List ℕ = filter is_corner (laid w cs es) in
-    let two : filter is_corner (laid (true ∷ w) (c ∷ cs) es) ≡ c ∷ c ∷ rest =
-    cond-true (is_corner c) (c ∷ filter is_corner (c ∷ laid w cs es)) (filter is_corner (c ∷ laid w cs es)) is
-    ∙ ap (λ us. c ∷ us) (cond-true (is_corner c) (c ∷ rest) rest is) in
-    omega (arith, ap length two, h (All-tail (λ x. x < 8) c cs low)))
-    (λ w e cs es f h low.
-    let rest : List ℕ = filter is_corner (laid w cs es) in
-    ap length (cond-false (is_corner (8 + e)) ((8 + e) ∷ rest) rest (edge_is e)) ∙ h low)
+    grind (arith, nat_tests, lt-ltb, All-head (λ x. x < 8) c cs low, h (All-tail (λ x. x < 8) c cs low)))
+    (λ w e cs es f h low. grind (arith, nat_tests, le-ltb, h low))
 
 pub filter-corners : (w : List Bool) (cs es : List ℕ) → Fits w cs es → All (λ c. c < 8) cs
     → every_second (filter is_corner (laid w cs es)) ≡ cs
 filter-corners =
     by_pieces (λ w cs es. All (λ c. c < 8) cs → every_second (filter is_corner (laid w cs es)) ≡ cs) (λ low. refl)
     (λ w c cs es f h low.
-    let is = corner_is c (All-head (λ x. x < 8) c cs low) in
-    let rest : List ℕ = filter is_corner (laid w cs es) in
-    ap every_second (cond-true (is_corner c) (c ∷ filter is_corner (c ∷ laid w cs es)) (filter is_corner (c ∷ laid w cs es)) is ∙ ap (λ us. c ∷ us) (cond-true (is_corner c) (c ∷ rest) rest is))
-    ∙ ap (λ us. c ∷ us) (h (All-tail (λ x. x < 8) c cs low)))
-    (λ w e cs es f h low.
-    let rest : List ℕ = filter is_corner (laid w cs es) in
-    ap every_second (cond-false (is_corner (8 + e)) ((8 + e) ∷ rest) rest (edge_is e)) ∙ h low)
+    grind (arith, nat_tests, lt-ltb, All-head (λ x. x < 8) c cs low, h (All-tail (λ x. x < 8) c cs low)))
+    (λ w e cs es f h low. grind (arith, nat_tests, le-ltb, h low))
 
 pub filter-edges : (w : List Bool) (cs es : List ℕ) → Fits w cs es → All (λ c. c < 8) cs
     → map (λ piece. piece - 8) (filter (λ piece. not (is_corner piece)) (laid w cs es)) ≡ es
 filter-edges =
-    let kept : List ℕ → List ℕ = filter (λ piece. not (is_corner piece)) in
-    by_pieces (λ w cs es. All (λ c. c < 8) cs → map (λ piece. piece - 8) (kept (laid w cs es)) ≡ es) (λ low. refl)
+    by_pieces
+    (λ w cs es. All (λ c. c < 8) cs
+    → map (λ piece. piece - 8) (filter (λ piece. not (is_corner piece)) (laid w cs es)) ≡ es)
+    (λ low. refl)
     (λ w c cs es f h low.
-    let is : not (is_corner c) ≡ false = ap not (corner_is c (All-head (λ x. x < 8) c cs low)) in
-    let rest : List ℕ = kept (laid w cs es) in
-    ap (map (λ piece. piece - 8)) (cond-false (not (is_corner c)) (c ∷ kept (c ∷ laid w cs es)) (kept (c ∷ laid w cs es)) is ∙ cond-false (not (is_corner c)) (c ∷ rest) rest is)
-    ∙ h (All-tail (λ x. x < 8) c cs low))
-    (λ w e cs es f h low.
-    let rest : List ℕ = kept (laid w cs es) in
-    ap (map (λ piece. piece - 8)) (cond-true (not (is_corner (8 + e))) ((8 + e) ∷ rest) rest (ap not (edge_is e)))
-    ∙ ap (λ x. x ∷ map (λ piece. piece - 8) rest) (add-sub_cancel_left 8 e) ∙ ap (λ us. e ∷ us) (h low))
+    grind (arith, nat_tests, lt-ltb, All-head (λ x. x < 8) c cs low, h (All-tail (λ x. x < 8) c cs low)))
+    (λ w e cs es f h low. grind (arith, nat_tests, le-ltb, h low))
 
 pub corners_of-laid : (w : List Bool) (cs es : List ℕ) → Fits w cs es → All (λ c. c < 8) cs → length cs ≡ 8
     → corners_of (laid w cs es) ≡ cs
@@ -164,11 +141,8 @@ pub corner_bits-laid : (w : List Bool) (cs es : List ℕ) → Fits w cs es → A
 corner_bits-laid =
     by_pieces (λ w cs es. All (λ c. c < 8) cs → corner_bits (laid w cs es) ≡ word_bits w) (λ low. refl)
     (λ w c cs es f h low.
-    let one : one_if (is_corner c) ≡ 1 = cond-true (is_corner c) 1 0 (corner_is c (All-head (λ x. x < 8) c cs low)) in
-    omega (arith, one, h (All-tail (λ x. x < 8) c cs low)))
-    (λ w e cs es f h low.
-    let none : one_if (is_corner (8 + e)) ≡ 0 = cond-false (is_corner (8 + e)) 1 0 (edge_is e) in
-    omega (arith, none, h low))
+    grind (arith, nat_tests, lt-ltb, All-head (λ x. x < 8) c cs low, h (All-tail (λ x. x < 8) c cs low)))
+    (λ w e cs es f h low. grind (arith, nat_tests, le-ltb, h low))
 
 -- ---- neighbours
 
