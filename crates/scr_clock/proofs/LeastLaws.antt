@@ -16,11 +16,7 @@ use Rattle.scr_clock.proofs.TurnLaws.{is_turn-from, setting_of, dials_after-turn
 some_below-from : (n : ℕ) (passes : ℕ → Bool) (k : ℕ) → k < n → passes k ≡ true → some_below n passes ≡ true
 unfolding some_below
 some_below-from zero passes k l h = absurd (omega (arith, l))
-some_below-from (suc n) passes k l h =
-    elim (cases_eq k n) [
-      | inl e ↦ or_left (passes n) (some_below n passes) (ap passes (sym e) ∙ h)
-      | inr e ↦ or_right (passes n) (some_below n passes) (some_below-from n passes k (omega (arith, e)) h)
-    ]
+some_below-from (suc n) passes k l h = grind (arith, or_left, or_right, some_below-from n passes k)
 
 some_below-gives : (n : ℕ) (passes : ℕ → Bool) → some_below n passes ≡ true → (k : ℕ) × (k < n) × (passes k ≡ true)
 unfolding some_below

@@ -14,7 +14,7 @@ use Rattle.scr_combinatorics.proofs.PlayedWhere.{TellsTurns, played-iff}
 use Rattle.scr_notation.specs.declared.event.Event.{Event}
 use Rattle.scr_notation.specs.declared.event.Event.TheVariants.{Clock}
 use Rattle.scr_notation.specs.declared.event.Kind.{Kind}
-use Rattle.scr_notation.specs.declared.event.Kind.TheVariants.{Faces, Axes, LayersAndTwist, PinSets, WideTurns}
+use Rattle.scr_notation.specs.declared.event.Kind.TheVariants.{PinSets}
 use Rattle.scr_notation.specs.declared.turn.Turn.{Turn}
 use Rattle.scr_notation.specs.declared.turn.Turn.TheVariants.{Pins, Over}
 use Rattle.scr_notation.specs.Turns.{has_turn, permits}
@@ -31,11 +31,8 @@ pub pins_of_clock : (kind : Kind) (t : Turn) (p a : ℕ) → t ≡ Pins p a → 
 pins_of_clock kind t p a e h = of_kind kind (subst (λ (u : Turn). IsTrue (has_turn kind u)) e h)
   where
     of_kind : (kind : Kind) → IsTrue (has_turn kind (Pins p a)) → IsTrue (is_clock_turn (Pins p a))
-    of_kind (Faces near far) h = absurd (false≢true h)
-    of_kind (Axes tips) h = absurd (false≢true h)
-    of_kind LayersAndTwist h = absurd (false≢true h)
     of_kind PinSets h = h
-    of_kind WideTurns h = absurd (false≢true h)
+    of_kind _ h = absurd (false≢true h)
 
 -- no other turn does anything to a Clock
 pub after_none : (held : HeldClock) (t : Turn) → ((p a : ℕ) → t ≡ Pins p a → ⊥) → (t ≡ Over → ⊥)

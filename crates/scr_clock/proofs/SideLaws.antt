@@ -139,10 +139,9 @@ one_by_sides dials c = (
   where
     by_side : (sides : List Bool) → length sides ≡ 1 → SidesLead sides dials
         → SidesLead (false ∷ []) dials ⊎ SidesLead (true ∷ []) dials
-    by_side [] e s = absurd (omega (arith, e))
     by_side (false ∷ []) e s = inl s
     by_side (true ∷ []) e s = inr s
-    by_side (a ∷ (b ∷ sides)) e s = absurd (omega (arith, e))
+    by_side _ e s = absurd (omega (arith, e))
 
 -- two turns are both of the front, or both of the back, or one of the back and then one of the front
 abbrev pub LeadByTwo : List ℕ → Type 0
@@ -169,13 +168,11 @@ two_by_sides dials c = (
     }
 
     by_sides : (sides : List Bool) → length sides ≡ 2 → SidesLead sides dials → LeadByTwo dials
-    by_sides [] e s = absurd (omega (arith, e))
-    by_sides (a ∷ []) e s = absurd (omega (arith, e))
     by_sides (false ∷ (false ∷ [])) e s = inl (inl s)
     by_sides (true ∷ (true ∷ [])) e s = inl (inr s)
     by_sides (true ∷ (false ∷ [])) e s = inr s
     by_sides (false ∷ (true ∷ [])) e s = inr (exchanged s)
-    by_sides (a ∷ (b ∷ (d ∷ sides))) e s = absurd (omega (arith, e))
+    by_sides _ e s = absurd (omega (arith, e))
 
 -- ---- tests
 
