@@ -1,5 +1,5 @@
 -- What is held between two places of a buffer.
-use Rattle.std.proofs.Common.{◌≡◌, ℕ, ◌≤◌, Bool, List, [], take, drop, length, sym, ap, ◌∙◌, length-take, length-drop, arith}
+use Rattle.std.proofs.Common.{◌≡◌, ℕ, ◌≤◌, Bool, List, [], take, drop, length, ap, length-take, length-drop, arith}
 use Rattle.std.proofs.lemmas.List.{drop_all}
 use Rattle.scr_check.specs.Ahead.{ReadAhead}
 
@@ -17,8 +17,4 @@ held bytes ended = record { bytes = bytes; ended = ended }
 pub held-kept : (from to : ℕ) (buffer other : List ℕ) (ended : Bool) (now : ReadAhead) → from ≤ to → to ≤ length buffer →
     record { bytes = drop from (take to buffer); ended = ended } ≡ now → now.bytes ≡ [] →
     record { bytes = drop from (take to other); ended = ended } ≡ now
-held-kept from to buffer other ended now order within same empty =
-    let none : drop from (take to buffer) ≡ [] = ap (λ (h : ReadAhead). h.bytes) same ∙ empty in
-    let places : from ≡ to = held-none from to buffer order within none in
-    let none' : drop from (take to other) ≡ [] = drop_all from (take to other) (omega (arith, length-take to other)) in
-    ap (λ (bytes : List ℕ). held bytes ended) (none' ∙ sym none) ∙ same
+held-kept from to buffer other ended now order within same empty = grind (arith, held-none, drop_all, length-take)

@@ -18,13 +18,7 @@ of-nothing : AreOfOneLine (most_bytes + 1) []
 of-nothing = record { text = []; ended = false; plain = IsPlain-none; parts = refl; few = omega arith }
 
 of-one-byte : (byte : ℕ) → (nat_eq byte 10 ≡ true) ⊎ (nat_eq byte 10 ≡ false) → AreOfOneLine (most_bytes + 1) (byte ∷ [])
-of-one-byte byte (inl feed) = record {
-  text = [];
-  ended = true;
-  plain = IsPlain-none;
-  parts = ap (λ b. b ∷ []) (eqb-true byte 10 feed);
-  few = omega arith;
-}
+of-one-byte byte (inl feed) = grind (arith, IsPlain-none, eqb-true)
 of-one-byte byte (inr other) = record {
   text = byte ∷ [];
   ended = false;
@@ -40,8 +34,7 @@ of-plain text plain few = record { text = text; ended = false; plain = plain; pa
 -- a line that is ended, where it is read whole
 first-ended : (text rest : List ℕ) → IsPlain text →
     line_at (cut_lines ((text ++ 10 ∷ []) ++ rest)) 1 ≡ Some (record { bytes = text; ended = true })
-first-ended text rest plain =
-    ap (λ x. line_at (cut_lines x) 1) (append_assoc text (10 ∷ []) rest) ∙ ap (λ x. line_at x 1) (cut-ended text rest plain)
+first-ended text rest plain = grind (arith, append_assoc, cut-ended)
 
 -- a line of which the first bytes are read
 abbrev begun-line : ℕ → List ℕ → List ℕ → CutLine
@@ -49,20 +42,14 @@ begun-line byte text rest = record { bytes = byte ∷ (text ++ first_bytes (cut_
 
 first-begun : (byte : ℕ) (text rest : List ℕ) → IsPlain (byte ∷ text) →
     line_at (cut_lines (((byte ∷ text) ++ []) ++ rest)) 1 ≡ Some (begun-line byte text rest)
-first-begun byte text rest plain =
-    ap (λ x. line_at (cut_lines (x ++ rest)) 1) (append-nil (byte ∷ text)) ∙ ap (λ x. line_at x 1) (cut-begun byte text rest plain)
+first-begun byte text rest plain = grind (arith, append-nil, cut-begun)
 
 module _ (expected : ExpectedLines) (lawful : AreLawful expected) (i byte : ℕ) (text : List ℕ) (stopped : Bool)
     (full : stopped ≡ false → length (byte ∷ text) ≡ most_bytes + 1) where
   begun-differs : (rest : List ℕ) → CanFollow stopped rest → (stopped ≡ true) ⊎ (stopped ≡ false)
       → LineAgrees expected i (begun-line byte text rest) → ⊥
-  begun-differs rest may (inl end) agrees =
-      false≢true (sym (ap (λ x. is_first_ended (cut_lines x)) (may end) ∙ ap is_first_ended cut-none) ∙ agrees.0)
-  begun-differs rest may (inr more) agrees =
-      let short = lawful.short i (byte ∷ (text ++ first_bytes (cut_lines rest))) agrees.1 in
-      let long = full more in
-      let parts = length-append text (first_bytes (cut_lines rest)) in
-      absurd (omega arith)
+  begun-differs rest may (inl end) agrees = grind (arith, false≢true, is_first_ended, cut-none)
+  begun-differs rest may (inr more) agrees = grind (arith, first_bytes, length-append)
 
   begun-there : (rest : List ℕ) (answer : Bool) → expected.IsAnswer i (byte ∷ text) (Ok answer) →
       (missing : Missing) → IsMissing expected i (begun-line byte text rest) missing → ⊥
@@ -89,46 +76,19 @@ module _ {S : Type 0} (left : S → Option (List ℕ)) (faults ends : S → ℕ)
   line-ended : (before after : Reading S) (expected : ExpectedLines) (i : ℕ) (text : List ℕ) (fault : CheckFault) → IsPlain text →
       Takes left faults ends before after (text ++ 10 ∷ []) → length text ≤ most_bytes →
       LineComesTo expected i (Some (record { bytes = text; ended = true })) fault → TakesBadLine left faults ends before after expected i fault
-  line-ended before after expected i text fault plain takes short comes = record {
-    bytes = text ++ 10 ∷ [];
-    takes = takes;
-    one_line = record {
-      text = text;
-      ended = true;
-      plain = plain;
-      parts = refl;
-      few = omega (arith, length-append text (10 ∷ []));
-    };
-    comes_to = λ rest may. subst (λ found. LineComesTo expected i found fault) (sym (first-ended text rest plain)) comes;
-  }
+  line-ended before after expected i text fault plain takes short comes = grind (arith, length-append, first-ended)
 
   -- there was no line
   pub line-none : (before after : Reading S) (expected : ExpectedLines) (i : ℕ) → Takes left faults ends before after ([] ++ []) →
       (after.ended ≡ false → 0 ≡ most_bytes + 1) → ChecksLine left faults ends before after expected i (Err (Differs i))
-  line-none before after expected i takes full = record {
-    bytes = [];
-    takes = takes;
-    one_line = of-nothing;
-    comes_to = λ rest may. none-there expected i rest (may (ended-by after.ended full));
-  }
+  line-none before after expected i takes full = grind (arith, of-nothing, none-there, ended-by)
 
   -- so does one of which the first bytes are read
   line-begun : (before after : Reading S) (expected : ExpectedLines) (i byte : ℕ) (text : List ℕ) (fault : CheckFault) → IsPlain (byte ∷ text) →
       Takes left faults ends before after ((byte ∷ text) ++ []) → length (byte ∷ text) ≤ most_bytes + 1 →
       ((rest : List ℕ) → CanFollow after.ended rest → LineComesTo expected i (Some (begun-line byte text rest)) fault) →
       TakesBadLine left faults ends before after expected i fault
-  line-begun before after expected i byte text fault plain takes few comes = record {
-    bytes = (byte ∷ text) ++ [];
-    takes = takes;
-    one_line = record {
-      text = byte ∷ text;
-      ended = false;
-      plain = plain;
-      parts = refl;
-      few = omega (arith, ap length (append-nil text));
-    };
-    comes_to = λ rest may. subst (λ found. LineComesTo expected i found fault) (sym (first-begun byte text rest plain)) (comes rest may);
-  }
+  line-begun before after expected i byte text fault plain takes few comes = grind (arith, append-nil, first-begun)
 
   -- what reading a line left: its bytes, and whether its line feed was read
   pub record IsLineRead (before after : Reading S) (text : List ℕ) (ended : Bool) : Type 0 where
@@ -149,24 +109,16 @@ module _ {S : Type 0} (left : S → Option (List ℕ)) (faults ends : S → ℕ)
   pub line-limit : (before after : Reading S) (expected : ExpectedLines) → AreLawful expected → (i : ℕ) (text : List ℕ) (ended : Bool) (missing : Missing) →
       IsLineRead before after text ended → (text ≡ [] → ended ≡ true) → expected.IsAnswer i text (Err missing) →
       ChecksLine left faults ends before after expected i (Err (Limit missing))
-  line-limit before after expected lawful i text true missing read there is =
-      line-ended before after expected i text (Limit missing) read.plain read.taken (read.short refl) is
+  line-limit before after expected lawful i text true missing read there is = grind (arith, line-ended)
   line-limit before after expected lawful i [] false missing read there is = absurd (false≢true (there refl))
   line-limit before after expected lawful i (byte ∷ text) false missing read there is =
-      line-begun before after expected i byte text (Limit missing) read.plain read.taken read.few
-      (λ rest may. lawful.by_line i (byte ∷ text) (byte ∷ (text ++ first_bytes (cut_lines rest))) missing is)
+      grind (arith, line-begun, first_bytes)
 
   -- it doesn't agree, or isn't ended
   pub line-differs : (before after : Reading S) (expected : ExpectedLines) → AreLawful expected → (i : ℕ) (text : List ℕ) (ended answer : Bool) →
       IsLineRead before after text ended → (text ≡ [] → ended ≡ true) → expected.IsAnswer i text (Ok answer) → (ended ≡ true → answer ≡ false) →
       ChecksLine left faults ends before after expected i (Err (Differs i))
-  line-differs before after expected lawful i text true answer read there is not =
-      let no : expected.IsAnswer i text (Ok false) = subst (λ a. expected.IsAnswer i text (Ok a)) (not refl) is in
-      line-ended before after expected i text (Differs i) read.plain read.taken (read.short refl) (
-        refl,
-        λ agrees. let same = lawful.one i text (Ok false) (Ok true) no agrees.1 in cc,
-        λ missing lacks. let same = lawful.one i text (Ok false) (Err missing) no lacks in cc,
-      )
+  line-differs before after expected lawful i text true answer read there is not = grind (arith, line-ended)
   line-differs before after expected lawful i [] false answer read there is not = absurd (false≢true (there refl))
   line-differs before after expected lawful i (byte ∷ text) false answer read there is not =
       line-begun before after expected i byte text (Differs i) read.plain read.taken read.few (λ rest may. (
@@ -186,13 +138,7 @@ module _ {S : Type 0} (left : S → Option (List ℕ)) (faults ends : S → ℕ)
     pub count : length (cut_lines bytes) ≡ line
 
   pub agreed-none : (reader : Reading S) (expected : ExpectedLines) → IsAgreed reader reader expected 0
-  agreed-none reader expected = record {
-    bytes = [];
-    takes = Takes-none left faults ends reader;
-    ended = subst AreEnded (sym cut-none) AreEnded-none;
-    agree = subst (OfEach (LineAgrees expected)) (sym cut-none) (OfEach-none (LineAgrees expected));
-    count = ap length cut-none;
-  }
+  agreed-none reader expected = grind (arith, Takes-none, cut-none, AreEnded-none, OfEach-none)
 
   pub agreed-more : (before middle after : Reading S) (expected : ExpectedLines) (line : ℕ) → IsAgreed before middle expected line →
       TakesGoodLine left faults ends middle after expected (line + 1) → IsAgreed before after expected (line + 1)

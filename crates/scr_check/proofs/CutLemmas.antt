@@ -1,8 +1,8 @@
 -- Lines cut at line feeds.
-use Rattle.std.proofs.Common.{◌≡◌, ℕ, Bool, true, false, List, [], ◌∷◌, ◌++◌, refl, sym, ap, ◌∙◌, subst, append_assoc, inl, inr, ◌⊎◌}
+use Rattle.std.proofs.Common.{◌≡◌, ℕ, Bool, true, false, List, [], ◌∷◌, ◌++◌, refl, sym, ap, ◌∙◌, subst, append_assoc, inl, inr, ◌⊎◌, arith}
 use Rattle.std.specs.Prelude.{nat_eq}
 use Rattle.std.proofs.lemmas.Bool.{false≢true, eqb-true, cases_Bool}
-use Rattle.scr_check.specs.Lines.{CutLine, with_byte, cut_lines, line_end, joined_lines, IsPlain, AreEnded}
+use Rattle.scr_check.specs.Lines.{CutLine, with_byte, cut_lines, joined_lines, IsPlain, AreEnded}
 
 -- ---- plain texts
 
@@ -55,8 +55,7 @@ pub cut-ended : (text rest : List ℕ) → IsPlain text →
     cut_lines (text ++ 10 ∷ rest) ≡ record { bytes = text; ended = true } ∷ cut_lines rest
 unfolding IsPlain
 cut-ended [] rest plain = cut-feed 10 rest refl
-cut-ended (byte ∷ text) rest plain =
-    cut-other byte (text ++ 10 ∷ rest) plain.0 ∙ ap (with_byte byte) (cut-ended text rest plain.1)
+cut-ended (byte ∷ text) rest plain = grind (arith, cut-other, cut-ended text rest plain.1)
 
 -- the bytes of the first of some lines, whether it is ended, and the lines after it
 abbrev pub first_bytes : List CutLine → List ℕ
@@ -84,8 +83,7 @@ pub cut-begun : (byte : ℕ) (text rest : List ℕ) → IsPlain (byte ∷ text) 
     cut_lines (byte ∷ (text ++ rest)) ≡ begun (byte ∷ text) (cut_lines rest)
 unfolding IsPlain
 cut-begun byte [] rest plain = cut-other byte rest plain.0 ∙ with_byte-begun byte (cut_lines rest)
-cut-begun byte (next ∷ text) rest plain =
-    cut-other byte (next ∷ (text ++ rest)) plain.0 ∙ ap (with_byte byte) (cut-begun next text rest plain.1)
+cut-begun byte (next ∷ text) rest plain = grind (arith, cut-other, cut-begun next text rest plain.1)
 
 -- lines of which there is a first
 pub record HaveFirst (lines : List CutLine) : Type 0 where
@@ -96,11 +94,7 @@ pub record HaveFirst (lines : List CutLine) : Type 0 where
 cut-some-by : (byte : ℕ) (rest : List ℕ) → (nat_eq byte 10 ≡ true) ⊎ (nat_eq byte 10 ≡ false)
     → HaveFirst (cut_lines (byte ∷ rest))
 cut-some-by byte rest (inl feed) = record { line = record { bytes = []; ended = true }; behind = cut_lines rest; is = cut-feed byte rest feed }
-cut-some-by byte rest (inr other) = record {
-  line = record { bytes = byte ∷ first_bytes (cut_lines rest); ended = is_first_ended (cut_lines rest) };
-  behind = lines_behind (cut_lines rest);
-  is = cut-other byte rest other ∙ with_byte-begun byte (cut_lines rest);
-}
+cut-some-by byte rest (inr other) = grind (arith, cut-other, with_byte-begun)
 
 -- a text that has a byte has a line
 pub cut-some : (byte : ℕ) (rest : List ℕ) → HaveFirst (cut_lines (byte ∷ rest))
@@ -121,11 +115,7 @@ AreEnded-tail line lines ended = ended.1
 cut-append-by : (byte : ℕ) (text rest : List ℕ) → (AreEnded (cut_lines text) → cut_lines (text ++ rest) ≡ cut_lines text ++ cut_lines rest) →
     (nat_eq byte 10 ≡ true) ⊎ (nat_eq byte 10 ≡ false) → AreEnded (cut_lines (byte ∷ text)) →
     cut_lines (byte ∷ (text ++ rest)) ≡ cut_lines (byte ∷ text) ++ cut_lines rest
-cut-append-by byte text rest behind (inl feed) ended =
-    let lines = cut-feed byte text feed in
-    cut-feed byte (text ++ rest) feed
-    ∙ ap (λ x. record { bytes = []; ended = true } ∷ x) (behind (AreEnded-tail _ _ (subst AreEnded lines ended)))
-    ∙ ap (λ x. x ++ cut_lines rest) (sym lines)
+cut-append-by byte text rest behind (inl feed) ended = grind (arith, cut-feed, AreEnded-tail)
 cut-append-by byte text rest behind (inr other) ended =
     let lines = cut-other byte text other in
     let parts = whole-with_byte byte (cut_lines text) (cut_lines rest) (subst AreEnded lines ended) in
@@ -141,9 +131,7 @@ cut-append (byte ∷ text) rest ended = cut-append-by byte text rest (cut-append
 -- a line more, which a line feed ends
 pub cut-push : (whole text : List ℕ) → AreEnded (cut_lines whole) → IsPlain text →
     cut_lines (whole ++ (text ++ 10 ∷ [])) ≡ cut_lines whole ++ record { bytes = text; ended = true } ∷ []
-cut-push whole text ended plain =
-    cut-append whole (text ++ 10 ∷ []) ended
-    ∙ ap (λ x. cut_lines whole ++ x) (cut-ended text [] plain ∙ ap (λ x. record { bytes = text; ended = true } ∷ x) cut-none)
+cut-push whole text ended plain = grind (arith, cut-append, cut-ended, cut-none)
 
 -- ---- joining
 
@@ -159,11 +147,8 @@ joined-feed lines = refl
 
 joined-step : (byte : ℕ) (rest : List ℕ) → joined_lines (cut_lines rest) ≡ rest →
     (nat_eq byte 10 ≡ true) ⊎ (nat_eq byte 10 ≡ false) → joined_lines (cut_lines (byte ∷ rest)) ≡ byte ∷ rest
-joined-step byte rest same (inl feed) =
-    ap joined_lines (cut-feed byte rest feed) ∙ joined-feed (cut_lines rest) ∙ ap (λ x. 10 ∷ x) same
-    ∙ ap (λ x. x ∷ rest) (sym (eqb-true byte 10 feed))
-joined-step byte rest same (inr other) =
-    ap joined_lines (cut-other byte rest other) ∙ joined-with_byte byte (cut_lines rest) ∙ ap (λ x. byte ∷ x) same
+joined-step byte rest same (inl feed) = grind (arith, cut-feed, joined-feed, eqb-true)
+joined-step byte rest same (inr other) = grind (arith, cut-other, joined-with_byte)
 
 -- a text is joined from its lines
 pub joined-cut : (text : List ℕ) → joined_lines (cut_lines text) ≡ text
@@ -174,6 +159,4 @@ joined-cut (byte ∷ rest) = joined-step byte rest (joined-cut rest) (cases_Bool
 pub joined-append : (xs ys : List CutLine) → joined_lines (xs ++ ys) ≡ joined_lines xs ++ joined_lines ys
 unfolding joined_lines
 joined-append [] ys = refl
-joined-append (line ∷ lines) ys =
-    ap (λ x. (line.bytes ++ line_end line.ended) ++ x) (joined-append lines ys)
-    ∙ sym (append_assoc (line.bytes ++ line_end line.ended) (joined_lines lines) (joined_lines ys))
+joined-append (line ∷ lines) ys = grind (arith, append_assoc, joined-append lines ys)

@@ -1,7 +1,8 @@
 -- The first line at fault, behind lines that aren't.
-use Rattle.std.proofs.Common.{◌≡◌, ℕ, zero, suc, ◌<◌, ◌≤◌, Option, Some, None, List, [], ◌∷◌, ◌++◌, true, length, Ok, Err, refl, sym, ap, subst, ◌∙◌, append-nil, length-append, inl, inr, ◌⊎◌, arith}
+use Rattle.std.proofs.Common.{◌≡◌, ℕ, zero, suc, ◌<◌, ◌≤◌, Option, Some, None, List, [], ◌∷◌, ◌++◌, length, Ok, Err, refl, sym, ap, subst, ◌∙◌, append-nil, length-append, inl, inr, ◌⊎◌, arith, get_or, false}
 use Rattle.std.specs.Prelude.{slice_get, MatchOption, IsSomeAnd}
 use Rattle.std.proofs.lemmas.Bool.{cases_lt}
+use Rattle.std.proofs.lemmas.Option.{slice_get_within, slice_get_past, slice_get-get_or}
 use Rattle.scr_check.specs.declared.fault.Missing.{Missing}
 use Rattle.scr_check.specs.declared.fault.CheckFault.{CheckFault}
 use Rattle.scr_check.specs.declared.fault.CheckFault.TheVariants.{Differs, Limit, Read}
@@ -21,20 +22,16 @@ Some-line same = cc
 
 -- a line that is there isn't past the end
 pub line-within : (lines : List CutLine) (k : ℕ) (line : CutLine) → slice_get lines k ≡ Some line → k < length lines
-line-within [] k line there = let none : None ≡ Some line = there in cc
-line-within (first ∷ lines) zero line there = omega arith
-line-within (first ∷ lines) (suc k) line there = omega (arith, line-within lines k line there)
+line-within lines k line there = slice_get_within lines k line there
 
 pub past-end : (lines : List CutLine) (k : ℕ) → length lines ≤ k → slice_get lines k ≡ None
-past-end [] k past = refl
-past-end (line ∷ lines) zero past = absurd (omega arith)
-past-end (line ∷ lines) (suc k) past = past-end lines k (omega arith)
+past-end lines k past = slice_get_past lines k past
 
 -- a line that isn't past the end is there
 pub line-there : (lines : List CutLine) (k : ℕ) → k < length lines → (line : CutLine) × (slice_get lines k ≡ Some line)
-line-there [] k below = absurd (omega arith)
-line-there (line ∷ lines) zero below = (line, refl)
-line-there (line ∷ lines) (suc k) below = line-there lines k (omega arith)
+line-there lines k below =
+    let none : CutLine = record { bytes = []; ended = false } in
+    (get_or lines k none, slice_get-get_or lines k none below)
 
 -- the lines of some lines and more behind them
 pub at-before : (lines more : List CutLine) (k : ℕ) → k < length lines → slice_get (lines ++ more) k ≡ slice_get lines k
@@ -49,12 +46,7 @@ at-behind (line ∷ lines) more = at-behind lines more
 push-by : (P : ℕ → CutLine → Type 0) (lines : List CutLine) (last : CutLine) → OfEach P lines → P (suc (length lines)) last →
     (k : ℕ) (line : CutLine) → slice_get (lines ++ last ∷ []) k ≡ Some line → (k < length lines) ⊎ (length lines ≤ k) → P (suc k) line
 push-by P lines last each so k line there (inl below) = each k line (sym (at-before lines (last ∷ []) k below) ∙ there)
-push-by P lines last each so k line there (inr past) =
-    let within = line-within (lines ++ last ∷ []) k line there in
-    let number : k ≡ length lines = omega (arith, length-append lines (last ∷ [])) in
-    let same : last ≡ line =
-    Some-line (sym (at-behind lines (last ∷ [])) ∙ ap (slice_get (lines ++ last ∷ [])) (sym number) ∙ there) in
-    subst (λ n. P (suc n) line) (sym number) (subst (P (suc (length lines))) same so)
+push-by P lines last each so k line there (inr past) = grind (arith, line-within, length-append, Some-line, at-behind)
 
 pub OfEach-push : (P : ℕ → CutLine → Type 0) (lines : List CutLine) (last : CutLine) → OfEach P lines → P (suc (length lines)) last →
     OfEach P (lines ++ last ∷ [])
@@ -74,10 +66,7 @@ pub record IsFaultless (expected : ExpectedLines) (i : ℕ) (line : CutLine) : T
 -- where it agrees
 pub faultless : (expected : ExpectedLines) → AreLawful expected → (i : ℕ) (line : CutLine) → LineAgrees expected i line
     → IsFaultless expected i line
-faultless expected lawful i line agrees = record {
-  agrees = agrees;
-  there = λ missing lacks. let same = lawful.one i line.bytes (Ok true) (Err missing) agrees.1 lacks in cc;
-}
+faultless expected lawful i line agrees = grind arith
 
 pub each-faultless : (expected : ExpectedLines) → AreLawful expected → (lines : List CutLine) →
     OfEach (LineAgrees expected) lines → OfEach (IsFaultless expected) lines
@@ -118,56 +107,39 @@ past-behind lines k past = ap (λ x. slice_get x k) (append-nil lines) ∙ past-
 module _ (expected : ExpectedLines) (lines more : List CutLine) (so : OfEach (IsFaultless expected) lines) (few : suc (length lines) ≤ expected.count) where
   first-here : (IsInOrder expected (lines ++ more) (suc (length lines)) → ⊥)
       → IsFirstAtFault expected (lines ++ more) (suc (length lines))
-  first-here fault = record {
-    at_fault = fault;
-    none_before = λ j below. none-before expected lines more so (omega arith) j (omega arith);
-  }
+  first-here fault = grind (arith, none-before)
 
   is-expected : IsExpected expected (suc (length lines))
   is-expected = (omega arith, omega arith)
 
   comes-to-none : slice_get (lines ++ more) (length lines) ≡ None
       → ComesTo expected (lines ++ more) (Err (Differs (suc (length lines))))
-  comes-to-none here = (
-    first-here (λ order. subst (OrderOf expected (suc (length lines))) here order is-expected),
-    λ missing lacks. subst (LackOf expected (suc (length lines)) missing) here lacks.1,
-  )
+  comes-to-none here = grind (arith, first-here, is-expected)
 
   comes-to-differs : (line : CutLine) → slice_get (lines ++ more) (length lines) ≡ Some line →
       (LineAgrees expected (suc (length lines)) line → ⊥) → ((missing : Missing) → IsMissing expected (suc (length lines)) line missing → ⊥) →
       ComesTo expected (lines ++ more) (Err (Differs (suc (length lines))))
-  comes-to-differs line here differs there = (
-    first-here (λ order. let it = subst (OrderOf expected (suc (length lines))) here order in differs it.1),
-    λ missing lacks. there missing (subst (LackOf expected (suc (length lines)) missing) here lacks.1),
-  )
+  comes-to-differs line here differs there = grind (arith, first-here)
 
   comes-to-limit : (line : CutLine) → slice_get (lines ++ more) (length lines) ≡ Some line → (missing : Missing) →
       IsMissing expected (suc (length lines)) line missing → ComesTo expected (lines ++ more) (Err (Limit missing))
-  comes-to-limit line here missing is = (
-    suc (length lines),
-    first-here (λ order. let it = subst (OrderOf expected (suc (length lines))) here order in it.2 missing is),
-    (is-expected, subst (LackOf expected (suc (length lines)) missing) (sym here) is),
-  )
+  comes-to-limit line here missing is = grind (arith, first-here, is-expected)
 
   comes-to-by : (found : Option CutLine) (fault : CheckFault) → slice_get (lines ++ more) (length lines) ≡ found →
       LineComesTo expected (suc (length lines)) found fault → ComesTo expected (lines ++ more) (Err fault)
-  comes-to-by None fault here comes =
-      subst (λ (f : CheckFault). ComesTo expected (lines ++ more) (Err f)) (sym comes) (comes-to-none here)
-  comes-to-by (Some line) (Differs j) here comes =
-      subst (λ n. ComesTo expected (lines ++ more) (Err (Differs n))) (sym comes.0) (comes-to-differs line here comes.1 comes.2)
+  comes-to-by None fault here comes = grind (arith, comes-to-none)
+  comes-to-by (Some line) (Differs j) here comes = grind (arith, comes-to-differs)
   comes-to-by (Some line) (Limit missing) here comes = comes-to-limit line here missing comes
   comes-to-by (Some line) Read here comes = absurd comes
 
 pub comes-to-line : (expected : ExpectedLines) (lines more : List CutLine) (fault : CheckFault) →
     OfEach (IsFaultless expected) lines → suc (length lines) ≤ expected.count →
     LineComesTo expected (suc (length lines)) (line_at more 1) fault → ComesTo expected (lines ++ more) (Err fault)
-comes-to-line expected lines more fault so few comes =
-    comes-to-by expected lines more so few (line_at more 1) fault (at-behind lines more) comes
+comes-to-line expected lines more fault so few comes = grind (arith, comes-to-by, at-behind)
 
 none-past : (expected : ExpectedLines) (lines : List CutLine) (k : ℕ) → length lines ≡ expected.count → length lines ≤ k →
     IsInOrder expected (lines ++ []) (suc k)
-none-past expected lines k all past =
-    subst (OrderOf expected (suc k)) (sym (past-behind lines k past)) (λ is. absurd (omega (arith, is.1)))
+none-past expected lines k all past = grind (arith, past-behind)
 
 none-by : (expected : ExpectedLines) (lines : List CutLine) → OfEach (IsFaultless expected) lines → length lines ≡ expected.count →
     (k : ℕ) → (k < length lines) ⊎ (length lines ≤ k) → IsInOrder expected (lines ++ []) (suc k)
@@ -187,13 +159,4 @@ comes-to-agreement expected lines done so all = λ i. none-at expected lines so 
 -- where one more is there
 pub comes-to-more : (expected : ExpectedLines) (lines : List CutLine) (line : CutLine) (more : List CutLine) → OfEach (IsFaultless expected) lines →
     length lines ≡ expected.count → ComesTo expected (lines ++ line ∷ more) (Err (Differs (suc (length lines))))
-comes-to-more expected lines line more so all =
-    let here : slice_get (lines ++ line ∷ more) (length lines) ≡ Some line = at-behind lines (line ∷ more) in (
-      record {
-        at_fault = λ order.
-            let it = subst (OrderOf expected (suc (length lines))) here order in
-            absurd (omega (arith, it.0.1));
-        none_before = λ j below. none-before expected lines (line ∷ more) so (omega arith) j (omega arith);
-      },
-      λ missing lacks. absurd (omega (arith, lacks.0.1)),
-    )
+comes-to-more expected lines line more so all = grind (arith, at-behind, none-before)

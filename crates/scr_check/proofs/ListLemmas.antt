@@ -1,13 +1,13 @@
 -- What the reading of a list part took.
-use Rattle.std.proofs.Common.{◌≡◌, ℕ, ◌+◌, ◌-◌, ◌≤◌, Bool, true, false, Option, Some, None, List, [], ◌∷◌, ◌++◌, length, take, drop, refl, sym, ap, subst, ◌∙◌, append_assoc, append-nil, length-append, take-append-drop, arith}
+use Rattle.std.proofs.Common.{◌≡◌, ℕ, ◌+◌, ◌-◌, ◌≤◌, Bool, true, false, Option, Some, None, List, [], ◌∷◌, ◌++◌, length, take, drop, refl, sym, ap, ◌∙◌, append_assoc, append-nil, length-append, take-append-drop, arith}
 use Rattle.std.specs.Prelude.{nat_eq, ◌↔◌}
 use Rattle.std.specs.Str.{bytes_eq}
 use Rattle.std.proofs.lemmas.Bool.{eqb-true}
 use Rattle.std.proofs.lemmas.List.{take-append-le, drop-append-le, length-take-le, take_all, take_rest, drop_all}
-use Rattle.scr_check.specs.Lines.{CutLine, cut_lines, IsPlain, AreEnded}
+use Rattle.scr_check.specs.Lines.{IsPlain}
 use Rattle.scr_check.specs.Parts.{separator, ends_line, list_part, sheet_part, list_room}
 use Rattle.scr_check.specs.Reading.{Reading, byte_given, Takes}
-use Rattle.scr_check.specs.Shapes.{NoneSeparates, IsListText}
+use Rattle.scr_check.specs.Shapes.{IsListText}
 use Rattle.scr_check.specs.Taken.{CanFollow, TakesListPart}
 use Rattle.scr_check.proofs.CutLemmas.{cut-none, cut-push, IsPlain-none, IsPlain-one, IsPlain-append, AreEnded-none, AreEnded-one, AreEnded-append}
 use Rattle.scr_check.proofs.PartLemmas.{NoneSeparates-none, NoneSeparates-one, NoneSeparates-append, split-separated, split-separated_last, split-whole, split-full}
@@ -21,33 +21,17 @@ pub record IsListSoFar (start : ℕ) (text : List ℕ) : Type 0 where
   pub plain : IsPlain (drop start text)
 
 pub so-far-none : (text : List ℕ) → text ≡ [] → IsListSoFar 0 text
-so-far-none text none = rw none (record {
-  within = omega arith;
-  whole = record {
-    ended = subst (λ x. AreEnded x) (sym cut-none) AreEnded-none;
-    none = subst (λ x. NoneSeparates x) (sym cut-none) NoneSeparates-none;
-  };
-  plain = IsPlain-none;
-})
+so-far-none text none = grind (arith, cut-none, AreEnded-none, NoneSeparates-none, IsPlain-none)
 
 pub so-far-other : (start : ℕ) (text : List ℕ) (byte : ℕ) → IsListSoFar start text → nat_eq byte 10 ≡ false
     → IsListSoFar start (text ++ byte ∷ [])
-so-far-other start text byte so other = record {
-  within = omega (arith, so.within, length-append text (byte ∷ []));
-  whole = rw (take-append-le start text (byte ∷ []) so.within) so.whole;
-  plain = rw (drop-append-le start text (byte ∷ []) so.within)
-      (IsPlain-append (drop start text) (byte ∷ []) so.plain (IsPlain-one byte other));
-}
+so-far-other start text byte so other =
+    grind (arith, length-append, take-append-le, drop-append-le, IsPlain-append, IsPlain-one)
 
 whole-line : (whole tail : List ℕ) → IsListText whole → IsPlain tail → bytes_eq tail separator ≡ false
     → IsListText (whole ++ (tail ++ 10 ∷ []))
 whole-line whole tail so plain other =
-    let last : CutLine = record { bytes = tail; ended = true } in
-    let lines = cut-push whole tail so.ended plain in
-    record {
-      ended = rw lines (AreEnded-append (cut_lines whole) (last ∷ []) so.ended (AreEnded-one tail));
-      none = rw lines (NoneSeparates-append (cut_lines whole) (last ∷ []) so.none (NoneSeparates-one tail true other));
-    }
+    grind (arith, cut-push, AreEnded-append, AreEnded-one, NoneSeparates-append, NoneSeparates-one)
 
 pub so-far-feed : (start : ℕ) (text : List ℕ) (byte place : ℕ) → IsListSoFar start text → nat_eq byte 10 ≡ true →
     bytes_eq (drop start text) separator ≡ false → place ≡ length (text ++ byte ∷ []) → IsListSoFar place (text ++ byte ∷ [])
@@ -70,8 +54,7 @@ tail-is held text start same = take_rest held start ∙ ap (drop start) same
 -- ---- what was taken
 
 nothing-more : (text rest : List ℕ) (ended : Bool) → ended ≡ true → CanFollow ended rest → (text ++ []) ++ rest ≡ text
-nothing-more text rest ended end may =
-    ap (λ x. (text ++ []) ++ x) (may end) ∙ append-nil (text ++ []) ∙ append-nil text
+nothing-more text rest ended end may = grind (arith, append-nil)
 
 module _ {S : Type 0} (left : S → Option (List ℕ)) (faults ends : S → ℕ) where
   -- a separator was met

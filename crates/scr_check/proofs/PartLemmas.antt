@@ -1,6 +1,6 @@
 -- The list part of an input, of which the first bytes were taken.
-use Rattle.std.proofs.Common.{◌≡◌, ℕ, suc, ◌+◌, ◌≤◌, Bool, true, false, List, [], ◌∷◌, ◌++◌, length, take, refl, sym, ap, subst, ◌∙◌, append_assoc, append-nil, length-append, inl, inr, ◌⊎◌, arith}
-use Rattle.std.specs.List.{before_first, after_first, position_or_len}
+use Rattle.std.proofs.Common.{◌≡◌, ℕ, ◌+◌, ◌≤◌, Bool, true, false, List, [], ◌∷◌, ◌++◌, length, take, refl, sym, ap, subst, ◌∙◌, append_assoc, append-nil, length-append, inl, inr, ◌⊎◌, arith}
+use Rattle.std.specs.List.{before_first, after_first}
 use Rattle.std.specs.Str.{bytes_eq}
 use Rattle.std.proofs.lemmas.List.{take-append-le}
 use Rattle.std.proofs.lemmas.Slice.Eq.{bytes_eq-Decides}
@@ -40,17 +40,11 @@ after-separator line lines is = rw is refl
 
 before-other : (line : CutLine) (lines : List CutLine) → is_separator line ≡ false
     → lines_before (line ∷ lines) ≡ line ∷ lines_before lines
-before-other line lines other =
-    let n = position_or_len is_separator lines in
-    let next : 1 + n ≡ suc n = omega arith in
-    rw (other, next) refl
+before-other line lines other = grind arith
 
 after-other : (line : CutLine) (lines : List CutLine) → is_separator line ≡ false
     → lines_after (line ∷ lines) ≡ lines_after lines
-after-other line lines other =
-    let n = position_or_len is_separator lines in
-    let next : 1 + n + 1 ≡ suc (n + 1) = omega arith in
-    rw (other, next) refl
+after-other line lines other = grind arith
 
 before-append : (xs ys : List CutLine) → NoneSeparates xs → lines_before (xs ++ ys) ≡ xs ++ lines_before ys
 unfolding NoneSeparates
@@ -73,42 +67,27 @@ unfolding joined_lines
 joined-none = refl
 
 list-append : (whole rest : List ℕ) → IsListText whole → list_part (whole ++ rest) ≡ whole ++ list_part rest
-list-append whole rest lines =
-    ap (λ x. joined_lines (lines_before x)) (cut-append whole rest lines.ended)
-    ∙ ap joined_lines (before-append (cut_lines whole) (cut_lines rest) lines.none)
-    ∙ joined-append (cut_lines whole) (lines_before (cut_lines rest))
-    ∙ ap (λ x. x ++ list_part rest) (joined-cut whole)
+list-append whole rest lines = grind (arith, cut-append, before-append, joined-append, joined-cut)
 
 sheet-append : (whole rest : List ℕ) → IsListText whole → sheet_part (whole ++ rest) ≡ sheet_part rest
-sheet-append whole rest lines =
-    ap (λ x. joined_lines (lines_after x)) (cut-append whole rest lines.ended)
-    ∙ ap joined_lines (after-append (cut_lines whole) (cut_lines rest) lines.none)
+sheet-append whole rest lines = grind (arith, cut-append, after-append)
 
 -- ---- where a separator was met
 
 separated-list : (whole tail rest : List ℕ) → IsListText whole → IsPlain tail → bytes_eq tail separator ≡ true →
     list_part (whole ++ (tail ++ 10 ∷ rest)) ≡ whole
 separated-list whole tail rest lines plain separates =
-    list-append whole (tail ++ 10 ∷ rest) lines
-    ∙ ap (λ x. whole ++ joined_lines (lines_before x)) (cut-ended tail rest plain)
-    ∙ ap (λ x. whole ++ joined_lines x) (before-separator (record { bytes = tail; ended = true }) (cut_lines rest) separates)
-    ∙ ap (λ x. whole ++ x) joined-none ∙ append-nil whole
+    grind (arith, list-append, cut-ended, before-separator, joined-none, append-nil)
 
 separated-sheet : (whole tail rest : List ℕ) → IsListText whole → IsPlain tail → bytes_eq tail separator ≡ true →
     sheet_part (whole ++ (tail ++ 10 ∷ rest)) ≡ rest
 separated-sheet whole tail rest lines plain separates =
-    sheet-append whole (tail ++ 10 ∷ rest) lines
-    ∙ ap (λ x. joined_lines (lines_after x)) (cut-ended tail rest plain)
-    ∙ ap joined_lines (after-separator (record { bytes = tail; ended = true }) (cut_lines rest) separates)
-    ∙ joined-cut rest
+    grind (arith, sheet-append, cut-ended, after-separator, joined-cut)
 
 -- a line feed ends the separator
 pub split-separated : (whole tail rest : List ℕ) → IsListText whole → IsPlain tail → bytes_eq tail separator ≡ true →
     (list_part (whole ++ (tail ++ 10 ∷ rest)) ≡ whole) × (sheet_part (whole ++ (tail ++ 10 ∷ rest)) ≡ rest)
-split-separated whole tail rest lines plain separates = (
-  separated-list whole tail rest lines plain separates,
-  separated-sheet whole tail rest lines plain separates,
-)
+split-separated whole tail rest lines plain separates = grind (arith, separated-list, separated-sheet)
 
 -- the last line, which nothing ends
 pub cut-last : (byte : ℕ) (text : List ℕ) → IsPlain (byte ∷ text) →
@@ -122,15 +101,7 @@ pub split-separated_last : (whole tail : List ℕ) → IsListText whole → IsPl
     (list_part (whole ++ tail) ≡ whole) × (sheet_part (whole ++ tail) ≡ [])
 split-separated_last whole [] lines plain separates = absurd (false≢true separates)
 split-separated_last whole (byte ∷ text) lines plain separates =
-    let last : CutLine = record { bytes = byte ∷ text; ended = false } in (
-      list-append whole (byte ∷ text) lines
-          ∙ ap (λ x. whole ++ joined_lines (lines_before x)) (cut-last byte text plain)
-          ∙ ap (λ x. whole ++ joined_lines x) (before-separator last [] separates)
-          ∙ ap (λ x. whole ++ x) joined-none ∙ append-nil whole,
-      sheet-append whole (byte ∷ text) lines
-          ∙ ap (λ x. joined_lines (lines_after x)) (cut-last byte text plain)
-          ∙ ap joined_lines (after-separator last [] separates) ∙ joined-none,
-    )
+    grind (arith, list-append, cut-last, before-separator, joined-none, append-nil, sheet-append, after-separator)
 
 -- ---- where none was met
 
@@ -144,22 +115,17 @@ none-after lines none = ap lines_after (sym (append-nil lines)) ∙ after-append
 -- an input of which no line separates
 pub split-alone : (input : List ℕ) → NoneSeparates (cut_lines input)
     → (list_part input ≡ input) × (sheet_part input ≡ [])
-split-alone input none = (
-  ap joined_lines (all-before (cut_lines input) none) ∙ joined-cut input,
-  ap joined_lines (none-after (cut_lines input) none) ∙ joined-none,
-)
+split-alone input none = grind (arith, all-before, joined-cut, none-after, joined-none)
 
 last-NoneSeparates : (tail : List ℕ) → IsPlain tail → bytes_eq tail separator ≡ false → NoneSeparates (cut_lines tail)
 last-NoneSeparates [] plain other = subst NoneSeparates (sym cut-none) NoneSeparates-none
-last-NoneSeparates (byte ∷ text) plain other =
-    subst NoneSeparates (sym (cut-last byte text plain)) (NoneSeparates-one (byte ∷ text) false other)
+last-NoneSeparates (byte ∷ text) plain other = grind (arith, cut-last, NoneSeparates-one)
 
 -- the input ends without one
 pub split-whole : (whole tail : List ℕ) → IsListText whole → IsPlain tail → bytes_eq tail separator ≡ false →
     (list_part (whole ++ tail) ≡ whole ++ tail) × (sheet_part (whole ++ tail) ≡ [])
 split-whole whole tail lines plain other =
-    split-alone (whole ++ tail) (subst NoneSeparates (sym (cut-append whole tail lines.ended))
-    (NoneSeparates-append (cut_lines whole) (cut_lines tail) lines.none (last-NoneSeparates tail plain other)))
+    grind (arith, split-alone, cut-append, NoneSeparates-append, last-NoneSeparates)
 
 -- ---- where enough bytes were taken to tell that there are too many
 
@@ -169,10 +135,7 @@ separator-length text separates = ap length ((bytes_eq-Decides text separator).0
 joined-first : (line : CutLine) (lines : List CutLine) (text more : List ℕ) → line.bytes ≡ text ++ more →
     joined_lines (line ∷ lines) ≡ text ++ (more ++ (line_end line.ended ++ joined_lines lines))
 unfolding joined_lines
-joined-first line lines text more begins =
-    append_assoc line.bytes (line_end line.ended) (joined_lines lines)
-    ∙ ap (λ x. x ++ (line_end line.ended ++ joined_lines lines)) begins
-    ∙ append_assoc text more (line_end line.ended ++ joined_lines lines)
+joined-first line lines text more begins = grind (arith, append_assoc)
 
 full-by : (room byte : ℕ) (whole text rest : List ℕ) (line : CutLine) (lines : List CutLine) → IsListText whole →
     cut_lines (byte ∷ (text ++ rest)) ≡ line ∷ lines → (more : List ℕ) → line.bytes ≡ (byte ∷ text) ++ more →
@@ -199,11 +162,7 @@ full-by room byte whole text rest line lines list cut more begins long (inr othe
 
 pub split-full : (room : ℕ) (whole tail rest : List ℕ) → IsListText whole → IsPlain tail → length (whole ++ tail) ≡ room + 5 →
     take room (list_part (whole ++ (tail ++ rest))) ≡ take room (whole ++ tail)
-split-full room whole [] rest lines plain long =
-    let same : length (whole ++ []) ≡ length whole = ap length (append-nil whole) in
-    let enough : room ≤ length whole = omega arith in
-    ap (take room) (list-append whole rest lines) ∙ take-append-le room whole (list_part rest) enough
-    ∙ ap (take room) (sym (append-nil whole))
+split-full room whole [] rest lines plain long = grind (arith, append-nil, list-append, take-append-le)
 split-full room whole (byte ∷ text) rest lines plain long =
     full-by room byte whole text rest
     (record { bytes = (byte ∷ text) ++ first_bytes (cut_lines rest); ended = is_first_ended (cut_lines rest) }) (lines_behind (cut_lines rest))

@@ -1,4 +1,4 @@
-use Rattle.std.proofs.Common.{◌≡◌, [], true, false, length, sym, ap, ◌∙◌}
+use Rattle.std.proofs.Common.{◌≡◌, [], true, false, sym, ◌∙◌, arith}
 use Rattle.std.proofs.lemmas.Bool.{false≢true, eqb-true, eqb-false}
 use Rattle.std.proofs.lemmas.Result.{err_from_is_err_and}
 use Rattle.scr_check.specs.Reading.{reading}
@@ -9,36 +9,16 @@ use Rattle.scr_check.proofs.check.check_line.Goals as goal
 
 read : (g : Over) (c : In_ok-ended g) →
     IsLineRead g.S.Source.left g.S.Source.faults g.S.Source.ends (reading c.args.reader.now) (reading c.read_line.new.reader) c.read_line.new.text.items c.in_ok-ended.ended
-read g c = record {
-  plain = c.read_line.ensures.plain;
-  taken = c.in_ok-ended.ensures.taken;
-  few = c.read_line.ensures.few;
-  short = c.in_ok-ended.ensures.short;
-  full = c.in_ok-ended.ensures.full;
-}
+read g c = grind arith
 
 there : (g : Over) (c : After-agrees g) → c.read_line.new.text.items ≡ [] → c.in_ok-ended.ended ≡ true
-there g c = elim c.else-is_empty.branch [
-  | else-is_empty-via-then-is_empty+else-not-ended w ↦ λ _. w.if-not-ended.false
-  | else-is_empty-via-else-is_empty w ↦ λ none.
-      absurd (eqb-false (length c.read_line.new.text.items) 0 (sym c.is_empty.ensures ∙ w.if-is_empty.false) (ap length none))
-]
+there g c = grind (arith, else-is_empty-via-then-is_empty+else-not-ended, else-is_empty-via-else-is_empty, eqb-false)
 
 pub returns-in_err-ended-clause-line : goal.returns-in_err-ended-clause-line
-returns-in_err-ended-clause-line g c =
-    let p = err_from_is_err_and c.from_residual.result c.from_residual.ensures.1 in
-    rw (p.1, p.2) (record {
-      bytes = c.read_line.new.text.items;
-      stops = c.in_err-ended.ensures.failed;
-      one_line = of-plain c.read_line.new.text.items c.read_line.ensures.plain c.read_line.ensures.few;
-    })
+returns-in_err-ended-clause-line g c = grind (arith, err_from_is_err_and, of-plain)
 
 pub returns-then-not-ended-clause-line : goal.returns-then-not-ended-clause-line
-returns-then-not-ended-clause-line g c =
-    line-absent g.S.Source.left g.S.Source.faults g.S.Source.ends (reading c.args.reader.now) (reading c.read_line.new.reader)
-    (g.X.Expected.lines c.args.expected.now) c.args.line c.read_line.new.text.items c.in_ok-ended.ended
-    (read g (goal.at.returns-then-not-ended-clause-line g c).In_ok-ended)
-    (eqb-true (length c.read_line.new.text.items) 0 (sym c.is_empty.ensures ∙ c.if-is_empty.true)) c.if-not-ended.true
+returns-then-not-ended-clause-line g c = grind (arith, line-absent, read, eqb-true)
 
 pub returns-else-agrees-clause-line : goal.returns-else-agrees-clause-line
 returns-else-agrees-clause-line g c =

@@ -1,23 +1,14 @@
-use Rattle.std.proofs.Common.{refl, ◌∙◌, arith}
+use Rattle.std.proofs.Common.{arith}
 use Rattle.std.proofs.lemmas.Result.{err_from_is_err_and}
 use Rattle.scr_check.specs.Reading.{reading}
 use Rattle.scr_check.proofs.CheckLemmas.{agreed-none, agreed-more, sheet-fault, sheet-agrees, sheet-more, sheet-failed}
 use Rattle.scr_check.proofs.check.check_lines.Goals as goal
 
 pub loop-line-init : goal.loop-line-init
-loop-line-init g c = record {
-  same_source = refl;
-  line = omega arith;
-  agreed = agreed-none g.S.Source.left g.S.Source.faults g.S.Source.ends (reading c.args.reader.now) (g.X.Expected.lines c.args.expected.now);
-}
+loop-line-init g c = grind (arith, agreed-none)
 
 pub loop-line-preserved : goal.loop-line-preserved
-loop-line-preserved g c = record {
-  same_source = c.check_line.ensures.same_source ∙ c.loop-line.invariant.same_source;
-  line = omega arith;
-  agreed = agreed-more g.S.Source.left g.S.Source.faults g.S.Source.ends (reading c.args.reader.now) (reading c.loop-line.reader) (reading c.check_line.new.reader)
-      (g.X.Expected.lines c.args.expected.now) c.loop-line.line c.loop-line.invariant.agreed (rw c.in_ok-check_line.was at c.check_line.ensures.line);
-}
+loop-line-preserved g c = grind (arith, agreed-more)
 
 pub returns-in_err-check_line-clause-sheet : goal.returns-in_err-check_line-clause-sheet
 returns-in_err-check_line-clause-sheet g c =

@@ -1,17 +1,11 @@
-use Rattle.std.proofs.Common.{◌∙◌, [], ◌∷◌, refl, arith}
+use Rattle.std.proofs.Common.{◌∙◌, [], ◌∷◌, arith}
 use Rattle.std.proofs.lemmas.Bool.{ne_eqb}
-use Rattle.scr_check.specs.Reading.{reading}
 use Rattle.scr_check.proofs.CutLemmas.{IsPlain-none, IsPlain-one, IsPlain-append}
 use Rattle.scr_check.proofs.ReadingLemmas.{Takes-none, Takes-append}
 use Rattle.scr_check.proofs.line.read_line.Goals as goal
 
 pub loop-reader-init : goal.loop-reader-init
-loop-reader-init g c = record {
-  same_source = refl;
-  few = rw c.requires (omega arith);
-  plain = rw c.requires IsPlain-none;
-  taken = rw c.requires (Takes-none g.S.Source.left g.S.Source.faults g.S.Source.ends (reading c.args.reader.now));
-}
+loop-reader-init g c = grind (arith, IsPlain-none, Takes-none)
 
 pub loop-reader-preserved : goal.loop-reader-preserved
 loop-reader-preserved g c = record {

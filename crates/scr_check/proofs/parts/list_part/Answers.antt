@@ -1,4 +1,4 @@
-use Rattle.std.proofs.Common.{◌≡◌, false, length, take, drop, refl, sym, ap, ◌∙◌}
+use Rattle.std.proofs.Common.{◌≡◌, false, length, take, drop, refl, sym, ap, ◌∙◌, arith}
 use Rattle.std.specs.Str.{bytes_eq}
 use Rattle.std.proofs.lemmas.Bool.{false≢true, eq-eqb, ne_eqb, eqb-true}
 use Rattle.scr_check.specs.Parts.{separator, ends_line, list_room}
@@ -70,8 +70,4 @@ loop-reader-preserved g c = record {
 }
 
 pub returns-clause-part : goal.returns-clause-part
-returns-clause-part g c =
-    part-full g.S.Source.left g.S.Source.faults g.S.Source.ends (reading c.args.reader.now) (reading c.loop-reader.reader) c.loop-reader.start
-    c.loop-reader.text.items c.first_bytes-2.result.items c.loop-reader.invariant.so_far c.loop-reader.invariant.taken
-    (eqb-true (length c.loop-reader.text.items) 16390 (sym c.is_full.ensures.value ∙ c.loop-reader-test.false))
-    (c.first_bytes-2.ensures ∙ ap (take list_room) c.as_slice.ensures.value)
+returns-clause-part g c = grind (arith, part-full, eqb-true)
