@@ -1,5 +1,5 @@
 -- The check of an input, as a reader reads it.
-use Rattle.std.proofs.Common.{◌≡◌, ℕ, ◌<◌, ◌≤◌, Bool, true, false, cond, List, [], ◌∷◌, ◌++◌, length, take, Ok, Err, inl, inr, refl, sym, ap, subst, ◌∙◌, arith, append_assoc, length-take-le}
+use Rattle.std.proofs.Common.{◌≡◌, ℕ, ◌<◌, ◌≤◌, Bool, true, false, cond, List, [], ◌∷◌, ◌++◌, length, take, Ok, Err, inl, inr, refl, sym, ap, subst, ◌∙◌, arith, append_assoc, length-take-le, rules}
 use Rattle.std.specs.Prelude.{Option, Result, codes, IsTrue, All, Contains, filter, ◌↔◌}
 use Rattle.std.proofs.lemmas.Bool.{cases_lt}
 use Rattle.std.proofs.lemmas.List.Elements.{All-nil, All-cons, All-head, All-tail}
@@ -18,7 +18,6 @@ use Rattle.scr_list.specs.declared.fault.ListFault.{ListFault}
 use Rattle.scr_list.specs.declared.fault.ListFault.TheVariants as list
 use Rattle.scr_list.specs.declared.round.Round.{Round}
 use Rattle.scr_list.specs.Rounds.{rounds_of}
-use Rattle.scr_list.specs.Versions.{version_of}
 use Rattle.scr_list.proofs.RoundFacts.{most_bytes-le}
 use Rattle.scr_list.proofs.RoundLemmas.{rounds_of-long}
 use Rattle.scr_notation.specs.declared.event.Event.{Event}
@@ -42,12 +41,7 @@ end_of_check found = result_map_both (λ done. done) fault_of_check found
 
 -- a list that names rounds isn't too long
 listed-short : (bytes : List ℕ) (rounds : List Round) → rounds_of bytes ≡ Ok rounds → length bytes < list_room
-listed-short bytes rounds is =
-    let most = most_bytes-le bytes in
-    elim (cases_lt (version_of bytes).most_bytes (length bytes)) [
-      | inl long ↦ let refused = rounds_of-long bytes (version_of bytes) refl long in let no : ⊥ = cc in absurd no
-      | inr short ↦ omega (arith, most, short)
-    ]
+listed-short bytes rounds is = grind (arith, most_bytes-le, cases_lt, rounds_of-long)
 
 -- ---- by a reader
 
@@ -70,15 +64,7 @@ module _ {S : Type 0} (left : S → Option (List ℕ)) (faults ends : S → ℕ)
   takes-refusal : (settings : Settings) {before after : Reading S} (refusal : ListFault)
       → TakesList left faults ends before after (Err refusal)
       → EndsReading left faults ends before after settings (Err (fault.List refusal))
-  takes-refusal settings refusal taken =
-      let read = takes-rounds taken in
-      inl (record {
-        bytes = read.bytes;
-        takes = read.takes;
-        tells = λ rest follows.
-            let answer : Result (Unit {0}) Fault = Err (fault.List refusal) in
-            subst (λ r. InputComesTo settings r (read.bytes ++ rest) answer) (sym (read.tells rest follows)) refl;
-      })
+  takes-refusal settings refusal taken = grind (arith, takes-rounds)
 
   pub refused-list : (settings : Settings) (before after : Reading S) (refusal : ListFault)
       → ReadsListPart left faults ends before after (Err refusal)
@@ -96,10 +82,7 @@ module _ {S : Type 0} (left : S → Option (List ℕ)) (faults ends : S → ℕ)
   -- what may follow both of two takings follows the first with the second
   both-follow : {b c : Reading S} {ys : List ℕ} → Takes left faults ends b c ys → (rest : List ℕ)
       → CanFollow c.ended rest → CanFollow b.ended (ys ++ rest)
-  both-follow {b} {c} {ys} second rest follows ended =
-      let nothing = second.nothing_behind ended in
-      let same : c.ended ≡ true = ap (λ (r : Reading S). r.ended) nothing.0 ∙ ended in
-      ap (λ x. x ++ rest) nothing.1 ∙ follows same
+  both-follow {b} {c} {ys} second rest follows ended = grind arith
 
   -- a sheet that was held against the lines of a list's sheet
   takes-sheet : (settings : Settings) (a b c : Reading S) (rounds : List Round) (found : Result (Unit {0}) CheckFault)
@@ -195,17 +178,7 @@ module _ {S : Type 0} (left : S → Option (List ℕ)) (faults ends : S → ℕ)
   ends-reading settings source after answer gives end gave (inl taken) = inl (reads-taken source after gives end taken)
   ends-reading settings source after answer gives end gave (inr (inl lacks)) =
       let read = reads-list source after gives end lacks.1 lacks.2 in inr (inl (lacks.0, read.0, read.1, lacks.3))
-  ends-reading settings source after answer gives end gave (inr (inr (is, stops))) = inr (inr (
-    is,
-    record {
-      bytes = stops.bytes ++ after.ahead;
-      given = gave stops.bytes stops.stops;
-      few = omega arith;
-      no_end = stops.stops.no_end;
-      rose = stops.stops.rose;
-      never_falls = stops.stops.never_falls;
-    },
-  ))
+  ends-reading settings source after answer gives end gave (inr (inr (is, stops))) = grind arith
 
 -- ---- the rounds that are tested by tables
 
@@ -215,8 +188,7 @@ passing-next : {X : Type 0} (p : X → Bool) (P : X → Type 0) (x : X) (xs : Li
     → All (λ y. IsTrue (p y) → P y) (x ∷ xs)
 passing-next p P x xs true is rest own =
     All-cons (λ y. IsTrue (p y) → P y) x xs (λ passes. All-head P x (filter p xs) own) (rest (All-tail P x (filter p xs) own))
-passing-next p P x xs false is rest own =
-    All-cons (λ y. IsTrue (p y) → P y) x xs (λ passes. let no : false ≡ true = sym is ∙ passes in cc) (rest own)
+passing-next p P x xs false is rest own = grind (arith, All-cons)
 
 passing : {X : Type 0} (p : X → Bool) (P : X → Type 0) (xs : List X) → All P (filter p xs)
     → All (λ x. IsTrue (p x) → P x) xs
@@ -226,15 +198,9 @@ passing p P (x ∷ xs) all = passing-next p P x xs (p x) refl (passing p P xs) a
 pub each_tested : (events : List Bool) (rounds : List Round)
     → ((event : Event) → Has events event ↔ Contains (tested_events rounds) event)
     → All (λ (round : Round). IsTrue (is_tested_by_table round.event) → Has events round.event) rounds
-each_tested events rounds same =
-    passing (λ (round : Round). is_tested_by_table round.event) (λ (round : Round). Has events round.event) rounds
-    (each_asked events (filter (λ (round : Round). is_tested_by_table round.event) rounds) same)
+each_tested events rounds same = search (arith, rules, passing, each_asked)
 
 -- so few are tested
 pub tested-few : (p : Round → Bool) (rounds : List Round) (i : ℕ) → i < length rounds
     → length (filter p (take i rounds)) < length rounds
-tested-few p rounds i below =
-    let size = length-filter p (take i rounds) in
-    let few = count_by-le-length p (take i rounds) in
-    let taken = length-take-le i rounds (omega arith) in
-    omega (arith, size, few, taken, below)
+tested-few p rounds i below = grind (arith, length-filter, count_by-le-length, length-take-le)

@@ -1,5 +1,5 @@
 -- What is written of scrambles is fair.
-use Rattle.std.proofs.Common.{◌≡◌, ◌∙◌, ℕ, ◌+◌, ◌⊎◌, Bool, true, false, cond, List, [], ◌∷◌, ◌++◌, length, Ok, Err, inl, inr, refl, sym, ap, subst, append-nil, append_assoc, arith, All}
+use Rattle.std.proofs.Common.{◌≡◌, ◌∙◌, ℕ, ◌+◌, ◌⊎◌, Bool, true, false, cond, List, [], ◌∷◌, ◌++◌, length, Ok, Err, inl, inr, refl, sym, subst, append-nil, append_assoc, arith, All}
 use Rattle.std.proofs.lemmas.List.{length-map}
 use Rattle.std.proofs.lemmas.List.Elements.{All-head, All-tail}
 use Rattle.std.specs.Prelude.{Result, Option, Some, None, is_some, not, ok_or, codes}
@@ -9,7 +9,6 @@ use Rattle.scr_notation.specs.Written.{Written}
 use Rattle.scr_notation.specs.declared.event.Event.{Event}
 use Rattle.scr_notation.specs.Event.{net_side_of}
 use Rattle.scr_notation.specs.declared.turn.Turn.{Turn}
-use Rattle.scr_notation.specs.Spelling.{text_of}
 use Rattle.scr_words.specs.declared.seed.Seed.{Seed}
 use Rattle.scr_words.specs.declared.seed.SeedFault.{SeedFault}
 use Rattle.scr_words.specs.Seed.{seed_of}
@@ -17,12 +16,11 @@ use Rattle.scr_command.specs.declared.command.Command.{Command}
 use Rattle.scr_command.specs.declared.command.Command.TheVariants.{One, Sheet, Net}
 use Rattle.scr_command.specs.declared.command.UsageFault.{UsageFault}
 use Rattle.scr_command.specs.declared.command.UsageFault.TheVariants.{Grammar, NoSeed}
-use Rattle.scr_command.specs.declared.options.OptionName.TheVariants.{Workers, Tries, Attempts, Short}
 use Rattle.scr_command.specs.declared.options.Options.{Options}
-use Rattle.scr_command.specs.OptionTable.{option_row, sheet_options}
+use Rattle.scr_command.specs.OptionTable.{sheet_options}
 use Rattle.scr_options.specs.OptionWords.{Values, options_of}
 use Rattle.scr_text.specs.Steps.{and_then}
-use Rattle.scr_command.specs.Command.{command_of, event_for, number_in, seeded, sheet_of}
+use Rattle.scr_command.specs.Command.{command_of, event_for, seeded, sheet_of}
 use Rattle.scr_list.specs.declared.round.Round.{Round}
 use Rattle.scr_list.specs.Rounds.{IsRound}
 use Rattle.scr_list.proofs.NameLemmas.{name-bytes}
@@ -31,7 +29,7 @@ use Rattle.scr_round.specs.Made.{turns_of_each}
 use Rattle.scr_slots.specs.declared.settings.Settings.{Settings}
 use Rattle.scr_slots.specs.Promised.{Promised, States, Moves, slot_numbers}
 use Rattle.scr_slots.specs.Slots.{Scrambling, ByState, ByMoves, IsSlotScramble, IsDrawnFairly}
-use Rattle.scr_slots.specs.Events.{scrambling_of, promised_of}
+use Rattle.scr_slots.specs.Events.{promised_of}
 use Rattle.scr_slots.proofs.Listings.{Draws-alike}
 use Rattle.scr_fault.specs.declared.fault.Fault.{Fault}
 use Rattle.scr_fault.specs.declared.fault.Fault.TheVariants as fault
@@ -82,24 +80,15 @@ record IsFairText (settings : Settings) (part : Part) (text : List ℕ) : Type 0
 -- so is the text of a part that is drawn fairly
 fair_text : (settings : Settings) (part : Part) (text : List ℕ) → IsFairPart part → IsPartText settings part text
     → IsFairText settings part text
-fair_text settings part text fair is = record {
-  scrambles = turns_of_each is.scrambles;
-  each_slot = length-map is.scrambles (λ (w : Written). w.turns) ∙ is.all.each_slot;
-  fair = fair_scrambles (scrambling_of part.event) settings part.least part.first_stream is.scrambles fair is.all.each;
-  is = is.is;
-}
+fair_text settings part text fair is = grind (arith, length-map, fair_scrambles)
 
 -- and of leading parts
 fair_texts : (settings : Settings) (led rest : List Part) (text : List ℕ) → All IsFairPart (led ++ rest)
     → IsText (IsPartText settings) led text → IsText (IsFairText settings) led text
 fair_texts settings [] rest text fair is = is
-fair_texts settings (part ∷ led) rest text fair is = (
-  is.0,
-  is.1,
-  fair_text settings part is.0 (All-head IsFairPart part (led ++ rest) fair) is.2,
-  fair_texts settings led rest is.1 (All-tail IsFairPart part (led ++ rest) fair) is.3,
-  is.4,
-)
+fair_texts settings (part ∷ led) rest text fair is =
+    let more = fair_texts settings led rest is.1 (All-tail IsFairPart part (led ++ rest) fair) is.3 in
+    grind (arith, fair_text, All-head, All-tail)
 
 -- what was written of parts is the text of the first of them, which are fair, or a first part of that text
 record IsFairlyLed (settings : Settings) (parts : List Part) (out : Change) : Type 0 where
@@ -127,23 +116,15 @@ fair-parts : (settings : Settings) (k : ℕ) (parts : List Part) (out : Change) 
     → All IsFairPart parts → EndsParts settings k parts out ended → IsFairlyLed settings parts out
 fair-parts settings k parts out (Ok u) fair ends =
     fair-led settings parts out (Gains out) _ fair (λ text. inl) ends
-fair-parts settings k parts out (Err (fault.Usage usage)) fair ends = absurd ends
-fair-parts settings k parts out (Err (fault.List list)) fair ends = absurd ends
-fair-parts settings k parts out (Err (fault.Gap table index)) fair ends = absurd ends
-fair-parts settings k parts out (Err (fault.Differs line)) fair ends = absurd ends
 fair-parts settings k parts out (Err (fault.DrawLimit missing)) fair ends =
     fair-led settings parts out (Gains out) _ fair (λ text. inl) ends
 fair-parts settings k parts out (Err fault.Write) fair ends =
     fair-led settings parts out (Falters out) _ fair (λ text. inr) ends
-fair-parts settings k parts out (Err fault.NoMemory) fair ends = absurd ends
+fair-parts settings k parts out (Err why) fair ends = absurd ends
 
 fair-making : (settings : Settings) (parts : List Part) (out : Change) (ended : Result (Unit {0}) Fault)
     → EndsMaking settings parts out ended → IsFairlyLed settings parts out
-fair-making settings parts out ended making =
-    elim making [
-      | inl making ↦ fair-parts settings 0 parts out ended making.0 making.1
-      | inr lacks ↦ record { led = []; rest = parts; are = refl; text = []; fair = refl; written = inl lacks.1 }
-    ]
+fair-making settings parts out ended making = grind (arith, fair-parts)
 
 -- ---- one line
 
@@ -151,13 +132,8 @@ fair-making settings parts out ended making =
 led-one : (settings : Settings) (part : Part) (led rest : List Part) (text : List ℕ) → part ∷ [] ≡ led ++ rest
     → IsText (IsFairText settings) led text → (text ≡ []) ⊎ IsFairText settings part text
 led-one settings part [] rest text are fair = inl fair
-led-one settings part (first ∷ []) rest text are fair =
-    let same : first ≡ part = cc in
-    let whole : text ≡ fair.0 = fair.4 ∙ ap (λ t. fair.0 ++ t) fair.3 ∙ append-nil fair.0 in
-    inr (subst (λ p. IsFairText settings p text) same (subst (IsFairText settings first) (sym whole) fair.2))
-led-one settings part (first ∷ second ∷ led) rest text are fair =
-    let none : ⊥ = cc in
-    absurd none
+led-one settings part (first ∷ []) rest text are fair = grind (arith, append-nil)
+led-one settings part (first ∷ second ∷ led) rest text are fair = grind arith
 
 -- the one scramble of a part, and what is written of it
 record IsFairSingle (settings : Settings) (event : Event) (side : Option ℕ) (text : List ℕ) : Type 0 where
@@ -213,9 +189,7 @@ fair-rounds : (settings : Settings) (k : ℕ) (rounds : List Round) (led rest : 
     → All IsRound rounds → round_parts k rounds ≡ led ++ rest → IsText (IsFairText settings) led text
     → AreFairRounds AreFair k settings text
 fair-rounds settings k rounds [] rest text each are fair = subst (AreFairRounds AreFair k settings) (sym fair) (no_round k settings)
-fair-rounds settings k [] (part ∷ led) rest text each are fair =
-    let none : ⊥ = cc in
-    absurd none
+fair-rounds settings k [] (part ∷ led) rest text each are fair = grind arith
 fair-rounds settings k (round ∷ rounds) (part ∷ led) rest text each are fair =
     let same : part ≡ round_part k round = cc in
     let others : round_parts (k + 1) rounds ≡ led ++ rest = cc in
@@ -262,30 +236,19 @@ seeded-asked Is make makes word = by_seed (seed_of word)
     by_seed (Err fault) = tt
 
 one-asked : (words : List (List ℕ)) → IsAsked IsOne (command_of (codes "one" ∷ words))
-one-asked [] = tt
-one-asked (event ∷ []) = tt
 one-asked (event ∷ seed ∷ []) = and_then-asked IsOne (event_for event) _ (λ e. seeded-asked IsOne (One e) (λ s. (e, s, refl)) seed)
-one-asked (event ∷ seed ∷ more ∷ others) = tt
+one-asked words = tt
 
 net-asked : (words : List (List ℕ)) → IsAsked IsNet (command_of (codes "net" ∷ words))
-net-asked [] = tt
-net-asked (event ∷ []) = tt
 net-asked (event ∷ seed ∷ []) = and_then-asked IsNet (event_for event) _ (λ e. by_side e (not (is_some (net_side_of e))))
   where
     by_side : (e : Event) (bare : Bool) → IsAsked IsNet (cond bare (Err Grammar) (seeded (Net e) seed))
     by_side e true = tt
     by_side e false = seeded-asked IsNet (Net e) (λ s. (e, s, refl)) seed
-net-asked (event ∷ seed ∷ more ∷ others) = tt
+net-asked words = tt
 
 sheet_of-asked : (values : Values) → IsAsked IsSheet (sheet_of values)
-sheet_of-asked values =
-    and_then-asked IsSheet (number_in values (option_row Workers)) _ (λ workers.
-    and_then-asked IsSheet (number_in values (option_row Tries)) _ (λ tries.
-    and_then-asked IsSheet (number_in values (option_row Attempts)) _ (λ attempts.
-    and_then-asked IsSheet (number_in values (option_row Short)) _ (λ short.
-    let options : Options = record { workers = workers; tries = tries; attempts = attempts; short = short } in
-    and_then-asked IsSheet (ok_or (values (codes "seed")) Grammar) (seeded (λ s. Sheet s options)) (λ word.
-    seeded-asked IsSheet (λ s. Sheet s options) (λ s. (s, options, refl)) word)))))
+sheet_of-asked values = grind (arith, and_then-asked, seeded-asked)
 
 sheet-words-asked : (words : List (List ℕ)) → IsAsked IsSheet (command_of (codes "sheet" ∷ words))
 sheet-words-asked words = and_then-asked IsSheet (ok_or (options_of sheet_options words) Grammar) sheet_of sheet_of-asked
@@ -298,12 +261,7 @@ IsBelow settings text = (below : List ℕ) × IsFairLine AreFair below settings 
 -- the line of a scramble, and what is shown below it
 fair-line : (settings : Settings) (event : Event) (side : Option ℕ) (text : List ℕ) (it : IsFairSingle settings event side text)
     → IsFairLine AreFair (shown_net side it.turns) settings text
-fair-line settings event side text it = record {
-  event = event;
-  turns = it.turns;
-  fair = it.fair;
-  is = it.is ∙ append_assoc (text_of it.turns) (codes "\n") (shown_net side it.turns);
-}
+fair-line settings event side text it = grind (arith, append_assoc)
 
 one-writes : (source out : Change) (ended : Result (Unit {0}) Fault) (asked : Result Command UsageFault)
     → IsAsked IsOne asked → Ends asked source out ended → WritesOnly (IsFairLine AreFair []) out
@@ -335,20 +293,13 @@ sheet-writes : (source out : Change) (ended : Result (Unit {0}) Fault) (asked : 
     → IsAsked IsSheet asked → Ends asked source out ended → WritesOnly (AreFairRounds AreFair 0) out
 sheet-writes source out ended (Err usage) asks ends = nothing-written (AreFairRounds AreFair 0) out ends.1.1
 sheet-writes source out ended (Ok command) (seed, options, is) ends =
-    elim (subst (λ c. Ends (Ok c) source out ended) is ends) [
-      | inl made ↦ rounds-write _ made.0 (rounds_of-IsRounds made.1.bytes made.0 made.1.says).each out ended made.2
-      | inr refused ↦ nothing-written (AreFairRounds AreFair 0) out refused.2.1
-    ]
+    grind (arith, rounds-write, rounds_of-IsRounds, nothing-written)
 
 -- a run whose first word is this one, where each end of its command has written only such a text
 word-writes : (Is : Settings → List ℕ → Type 0) (name word : List ℕ) (words : List (List ℕ)) (source out : Change)
     (ended : Result (Unit {0}) Fault) → IsPerformed (word ∷ words) source out ended
     → (Ends (command_of (name ∷ words)) source out ended → WritesOnly Is out) → word ≡ name → WritesOnly Is out
-word-writes Is name word words source out ended performed so is =
-    elim performed.ends [
-      | inl ends ↦ so (subst (λ w. Ends (command_of (w ∷ words)) source out ended) is ends)
-      | inr wanting ↦ nothing-written Is out wanting.1.1
-    ]
+word-writes Is name word words source out ended performed so is = grind (arith, nothing-written)
 
 -- whatever a run writes of scrambles is fair
 pub fair-run : (words : List (List ℕ)) (source out : Change) (ended : Result (Unit {0}) Fault)

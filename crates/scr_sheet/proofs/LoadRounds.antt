@@ -1,5 +1,5 @@
 -- The rounds of a number are rounds that lists take.
-use Rattle.std.proofs.Common.{◌≡◌, ℕ, zero, suc, ◌+◌, ◌*◌, ◌%◌, List, [], length, sym, ap, arith, map, All}
+use Rattle.std.proofs.Common.{◌≡◌, ℕ, zero, suc, ◌+◌, ◌*◌, ◌%◌, List, [], length, sym, arith, map, All}
 use Rattle.std.proofs.lemmas.List.Elements.{All-nil, All-cons}
 use Rattle.std.proofs.lemmas.List.FromFn.{length-map-range_with_len}
 use Rattle.std.proofs.lemmas.List.{get_or-take}
@@ -16,27 +16,16 @@ use Rattle.scr_sheet.specs.Load.{load_events, load_round, load_rounds}
 
 -- round k has some of up to eight groups of an event
 load_round-IsRound : (number k : ℕ) → IsRound (load_round number k)
-load_round-IsRound number k =
-    let few = mod_below (number + 5 * k) 8 (omega arith) in
-    record {
-      some_groups = omega arith;
-      few_groups = omega (arith, few);
-      least = (id-IsId (load_round number k).event).usual;
-      name = λ some. cc;
-    }
+load_round-IsRound number k = grind (arith, mod_below, id-IsId)
 
 -- so many rounds of a number, from one on
 rounds_from-IsRound : (number first count : ℕ) → All IsRound (map (load_round number) (range_with_len first count))
 rounds_from-IsRound number first zero = All-nil IsRound
 rounds_from-IsRound number first (suc count) =
-    All-cons IsRound (load_round number first) (map (load_round number) (range_with_len (first + 1) count))
-    (load_round-IsRound number first) (rounds_from-IsRound number (first + 1) count)
+    grind (arith, All-cons, load_round-IsRound, rounds_from-IsRound number (first + 1) count)
 
 pub load_rounds-IsRounds : (number : ℕ) → IsRounds (load_rounds number)
-load_rounds-IsRounds number =
-    let size = length-map-range_with_len (load_round number) 0 (1 + number % 16) in
-    let few = mod_below number 16 (omega arith) in
-    record { each = rounds_from-IsRound number 0 (1 + number % 16); few = omega (arith, size, few) }
+load_rounds-IsRounds number = grind (arith, length-map-range_with_len, mod_below, rounds_from-IsRound)
 
 -- the events of the lists are the first ones of all
 in_turn : (number : ℕ)
@@ -55,5 +44,4 @@ pub unnamed : (number k least : ℕ) (name : List ℕ) → least ≡ usual_of (s
       least = least;
       name = name;
     } in made) ≡ load_round number k
-unnamed number k least name usual none =
-    rw (usual, none) (ap (λ event. usual_round event (1 + (number + 5 * k) % 8)) (in_turn (number + k)))
+unnamed number k least name usual none = grind (arith, in_turn)

@@ -1,7 +1,7 @@
 -- Parts made and written one after another.
 use Rattle.std.proofs.Math.Seq.{take-append_seam}
 use Rattle.std.proofs.lemmas.List.{length-map, map-append, take-append-drop, length-take-le}
-use Rattle.std.proofs.Common.{◌≡◌, ℕ, suc, ◌+◌, ◌*◌, ◌<◌, List, [], ◌∷◌, ◌++◌, length, map, take, drop, get_or, Ok, Err, refl, sym, ap, subst, ◌∙◌, append_assoc, append-nil, length-append, drop-cons, add-one, arith}
+use Rattle.std.proofs.Common.{◌≡◌, ℕ, suc, ◌+◌, ◌<◌, List, [], ◌∷◌, ◌++◌, length, map, take, drop, get_or, Ok, Err, refl, sym, ap, subst, ◌∙◌, append_assoc, append-nil, length-append, drop-cons, add-one, arith, rules}
 use Rattle.std.specs.Prelude.{Option, Some, None, IsSomeAnd, Result, MatchResult, slice_index_or}
 use Rattle.scr_notation.specs.Written.{Written}
 use Rattle.scr_outside.specs.Change.{Change, Gains, Falters}
@@ -10,7 +10,7 @@ use Rattle.scr_check.specs.declared.fault.Missing.{Missing}
 use Rattle.scr_list.specs.declared.round.Round.{Round}
 use Rattle.scr_slots.specs.declared.settings.Settings.{Settings}
 use Rattle.scr_slots.specs.Promised.{Promised}
-use Rattle.scr_slots.specs.Slots.{Scrambling, IsSlotAnswer, IsSlotScramble, HasNoScramble}
+use Rattle.scr_slots.specs.Slots.{Scrambling, IsSlotAnswer, IsSlotScramble}
 use Rattle.scr_slots.specs.Events.{scrambling_of}
 use Rattle.scr_fault.specs.declared.fault.Fault.{Fault}
 use Rattle.scr_fault.specs.declared.fault.Fault.TheVariants as fault
@@ -32,9 +32,7 @@ EachSlot-before Is stream (x ∷ xs) ys each = (each.0, EachSlot-before Is (stre
 pub EachSlot-behind : {X : Type 0} (Is : ℕ → X → Type 0) (stream : ℕ) (xs : List X) (y : X) (ys : List X)
     → EachSlot Is stream (xs ++ y ∷ ys) → Is (stream + length xs) y
 EachSlot-behind Is stream [] y ys each = let here : stream ≡ stream + 0 = omega arith in subst (λ s. Is s y) here each.0
-EachSlot-behind Is stream (x ∷ xs) y ys each =
-    let place : stream + 1 + length xs ≡ stream + length (x ∷ xs) = omega arith in
-    subst (λ s. Is s y) place (EachSlot-behind Is (stream + 1) xs y ys each.1)
+EachSlot-behind Is stream (x ∷ xs) y ys each = grind (arith, EachSlot-behind Is (stream + 1) xs y ys each.1)
 
 -- what is so of each is so of what is made of each
 pub EachSlot-map : {X Y : Type 0} (Is : ℕ → X → Type 0) (So : ℕ → Y → Type 0) (f : X → Y)
@@ -64,14 +62,7 @@ pub AreAnswers-placed : (settings : Settings) (part : Part) (n : ℕ) (answers b
     → AreAnswered (λ slot. IsSlotAnswer (scrambling_of part.event) settings part.least (part.first_stream + slot)) answers
     → AreAnswers settings part (map answer_at (take n (answers ++ behind)))
 AreAnswers-placed settings part n answers behind as_many slots each =
-    let Is : ℕ → Option Written → Type 0 = IsSlotAnswer (scrambling_of part.event) settings part.least in
-    let here : take (length answers) (answers ++ behind) ≡ answers = take-append_seam answers behind in
-    let all : take n (answers ++ behind) ≡ answers = subst (λ k. take k (answers ++ behind) ≡ answers) as_many here in
-    let P : List (Option (Option Written)) → Type 0 = λ list. AreAnswers settings part (map answer_at list) in
-    subst P (sym all) (record {
-      each_slot = length-map answers answer_at ∙ (as_many ∙ slots);
-      each = EachSlot-answered Is part.first_stream answers each;
-    })
+    grind (arith, take-append_seam, length-map, EachSlot-answered)
 
 -- the first of answers that is none, where those before it are some
 pub IsFirstNone-here : (answers : List (Option (Option Written))) (before : List Written) (k : ℕ) (d : Option (Option Written))
@@ -104,37 +95,13 @@ scrambles_of_answers scrambling settings least stream (scramble ∷ scrambles) e
 -- so a part has its scrambles
 pub AreScrambles-all : (settings : Settings) (part : Part) (answers : List (Option Written)) (scrambles : List Written)
     → AreAnswers settings part answers → map Some scrambles ≡ answers → AreScrambles settings part part.slots scrambles
-AreScrambles-all settings part answers scrambles are same =
-    let P : List (Option Written) → Type 0 = λ all. EachSlot (IsSlotAnswer (scrambling_of part.event) settings part.least) part.first_stream all in
-    record {
-      each_slot = sym (length-map scrambles Some) ∙ ap length same ∙ are.each_slot;
-      each = scrambles_of_answers (scrambling_of part.event) settings part.least part.first_stream scrambles (subst P (sym same) are.each);
-    }
+AreScrambles-all settings part answers scrambles are same = grind (arith, length-map, scrambles_of_answers)
 
 -- and one of which an answer is none has a first slot without
 pub IsFirstWithout-none : (settings : Settings) (part : Part) (answers : List (Option Written)) (place : ℕ)
     → AreAnswers settings part answers → IsFirstNone answers place → IsFirstWithout settings part place
 IsFirstWithout-none settings part answers place are first =
-    let scrambling = scrambling_of part.event in
-    let Is : ℕ → Option Written → Type 0 = IsSlotAnswer scrambling settings part.least in
-    let P : List (Option Written) → Type 0 = λ all. EachSlot Is part.first_stream all in
-    let each = subst P first.are are.each in
-    let some = length-map first.before (λ (w : Written). Some w) in
-    let size = length-append (map Some first.before) (None ∷ first.behind) in
-    let whole : length answers ≡ length (map Some first.before ++ None ∷ first.behind) = ap length first.are in
-    let there : part.first_stream + length (map Some first.before) ≡ part.first_stream + place =
-    ap (λ n. part.first_stream + n) (some ∙ first.as_many) in
-    let Q : ℕ → Type 0 = λ s. HasNoScramble scrambling settings part.least s in
-    record {
-      below = omega (arith, are.each_slot, some, size, whole, first.as_many);
-      nothing = subst Q there (EachSlot-behind Is part.first_stream (map Some first.before) None first.behind each);
-      before = first.before;
-      all_before = record {
-        each_slot = first.as_many;
-        each = scrambles_of_answers scrambling settings part.least part.first_stream first.before
-            (EachSlot-before Is part.first_stream (map Some first.before) (None ∷ first.behind) each);
-      };
-    }
+    grind (arith, length-map, length-append, EachSlot-behind, scrambles_of_answers, EachSlot-before)
 
 -- so it is with what workers made of them
 pub made-slots : (settings : Settings) (part : Part) (answers : List (Option Written)) (scrambles : List Written) (made : Result (Unit {0}) ℕ)
@@ -154,13 +121,8 @@ IsText-one IsOne part text is = (text, [], is, refl, sym (append-nil text))
 pub IsText-append : (IsOne : Part → List ℕ → Type 0) (parts more : List Part) (text next : List ℕ)
     → IsText IsOne parts text → IsText IsOne more next → IsText IsOne (parts ++ more) (text ++ next)
 IsText-append IsOne [] more text next none after = subst (λ t. IsText IsOne more (t ++ next)) (sym none) after
-IsText-append IsOne (part ∷ parts) more text next before after = (
-  before.0,
-  before.1 ++ next,
-  before.2,
-  IsText-append IsOne parts more before.1 next before.3 after,
-  ap (λ t. t ++ next) before.4 ∙ append_assoc before.0 before.1 next,
-)
+IsText-append IsOne (part ∷ parts) more text next before after =
+    grind (arith, append_assoc, IsText-append IsOne parts more before.1 next before.3 after)
 
 -- ---- how far the parts of a command are written
 
@@ -176,24 +138,11 @@ IsWhole settings parts out = IsLed settings parts (Gains out) (λ led rest. rest
 
 pub done-whole : {settings : Settings} {parts : List Part} {out : Change} → IsDone settings parts out
     → IsWhole settings parts out
-done-whole {parts = parts} done = record {
-  led = parts;
-  rest = [];
-  are = sym (append-nil parts);
-  text = done.text;
-  has = done.all;
-  is = done.gained;
-  leaves = refl;
-}
+done-whole {parts = parts} done = grind (arith, append-nil)
 
 pub whole-done : {settings : Settings} {parts : List Part} {out : Change} → IsWhole settings parts out
     → IsDone settings parts out
-whole-done {settings = settings} whole = record {
-  text = whole.text;
-  all = subst (λ p. IsText (IsPartText settings) p whole.text)
-      (sym (whole.are ∙ ap (λ rest. whole.led ++ rest) whole.leaves ∙ append-nil whole.led)) whole.has;
-  gained = whole.is;
-}
+whole-done {settings = settings} whole = grind (arith, append-nil)
 
 -- all parts are written but the rest, of which the first is part k
 pub record IsMadeUpTo (settings : Settings) (parts rest : List Part) (k : ℕ) (out : Change) : Type 0 where
@@ -226,11 +175,7 @@ made-more {settings = settings} {rest = rest} {part = part} made done = record {
 -- nothing is left
 pub made-all : {settings : Settings} {parts : List Part} {k : ℕ} {out : Change} → IsMadeUpTo settings parts [] k out
     → IsWhole settings parts out
-made-all {settings = settings} made = done-whole (record {
-  text = made.text;
-  all = subst (λ p. IsText (IsPartText settings) p made.text) (sym (made.are ∙ append-nil made.led)) made.has;
-  gained = made.gained;
-})
+made-all {settings = settings} made = grind (arith, done-whole, append-nil)
 
 -- leading parts behind others
 IsLed-behind : {settings : Settings} {parts more : List Part} {k : ℕ} {out : Change} {Is Is' : List ℕ → Type 0} {Leaves Leaves' : ℕ → List Part → Type 0}
@@ -238,43 +183,25 @@ IsLed-behind : {settings : Settings} {parts more : List Part} {k : ℕ} {out : C
     → ((led : ℕ) (left : List Part) → Leaves led left → Leaves' (k + led) (left ++ rest)) → IsLed settings more Is Leaves
     → IsLed settings parts Is' Leaves'
 IsLed-behind {settings} {k = k} {Leaves' = Leaves'} rest made so leaving ends =
-    let size = length-append made.led ends.led in
-    let place = made.place in
-    let there : k + length ends.led ≡ length (made.led ++ ends.led) = omega (arith, size, place) in
-    record {
-      led = made.led ++ ends.led;
-      rest = ends.rest ++ rest;
-      are = made.are ∙ ap (λ p. made.led ++ (p ++ rest)) ends.are ∙ ap (λ p. made.led ++ p) (append_assoc ends.led ends.rest rest)
-          ∙ sym (append_assoc made.led ends.led (ends.rest ++ rest));
-      text = made.text ++ ends.text;
-      has = IsText-append (IsPartText settings) made.led ends.led made.text ends.text made.has ends.has;
-      is = so ends.text ends.is;
-      leaves = subst (λ n. Leaves' n (ends.rest ++ rest)) there (leaving (length ends.led) ends.rest ends.leaves);
-    }
+    grind (arith, length-append, append_assoc, IsText-append)
 
 -- a slot without a scramble, of the first of some parts, with others behind them
 IsStopped-before : (settings : Settings) (missing : Missing) (k k' : ℕ) (left rest : List Part) → k ≡ k'
     → IsStopped settings missing k left → IsStopped settings missing k' (left ++ rest)
 IsStopped-before settings missing k k' [] rest same stopped = absurd stopped
-IsStopped-before settings missing k k' (failing ∷ left) rest same (j, told, first) =
-    let Told : ℕ → Type 0 = λ n. missing ≡ record { round = n + 1; slot = j + 1; words = 3 * settings.attempts } in
-    (j, subst Told same told, first)
+IsStopped-before settings missing k k' (failing ∷ left) rest same (j, told, first) = grind arith
 
 -- a part that ends the command
 pub made-fault : {settings : Settings} {parts rest : List Part} {part : Part} {k : ℕ} {held held' : Option (List ℕ)}
     {faults faults' : ℕ} (held'' : Option (List ℕ)) (faults'' : ℕ) (f : Fault) → IsMadeUpTo settings parts (part ∷ rest) k (from_to held faults held' faults')
     → EndsParts settings k (part ∷ []) (from_to held' faults' held'' faults'') (Err f)
     → EndsParts settings 0 parts (from_to held faults held'' faults'') (Err f)
-made-fault held'' faults'' (fault.Usage usage) made ends = absurd ends
-made-fault held'' faults'' (fault.List list) made ends = absurd ends
-made-fault held'' faults'' (fault.Gap table index) made ends = absurd ends
-made-fault held'' faults'' (fault.Differs line) made ends = absurd ends
 made-fault {settings = settings} {rest = rest} {k = k} held'' faults'' (fault.DrawLimit missing) made ends =
     IsLed-behind rest made (λ text. Gains-append made.gained)
     (λ led left. IsStopped-before settings missing (k + led) (0 + (k + led)) left rest (omega arith)) ends
 made-fault {rest = rest} held'' faults'' fault.Write made ends =
     IsLed-behind rest made (λ text. Falters-after made.gained) (λ led left u. tt) ends
-made-fault held'' faults'' fault.NoMemory made ends = absurd ends
+made-fault held'' faults'' f made ends = absurd ends
 
 -- ---- the rounds of a list
 
@@ -290,9 +217,7 @@ pub round-more : {settings : Settings} {held held' : Option (List ℕ)} {faults 
     → IsWhole settings (round_part i round ∷ []) (from_to held' faults' held'' faults'')
     → IsMadeUpTo settings (round_parts 0 rounds) (round_parts (i + 1) (drop (i + 1) rounds)) (i + 1) (from_to held faults held'' faults'')
 round-more {settings} {held} {held'} {faults} {faults'} rounds i round is held'' faults'' there made done =
-    let P : List Part → Type 0 = λ rest. IsMadeUpTo settings (round_parts 0 rounds) rest i (from_to held faults held' faults') in
-    let Done : Round → Type 0 = λ r. IsDone settings (round_part i r ∷ []) (from_to held' faults' held'' faults'') in
-    made-more (subst P (round_parts-next rounds i round there) made) (subst Done is (whole-done done))
+    grind (arith, from_to, made-more, round_parts-next, whole-done)
 
 -- a round that ends the sheet
 pub round-fault : {settings : Settings} {held held' : Option (List ℕ)} {faults faults' : ℕ} (rounds : List Round) (i : ℕ) (round : Round)
@@ -314,23 +239,13 @@ IsPartText-made {scrambles = scrambles} k round all = record { scrambles = scram
 -- nothing was written of some parts
 IsLed-none : {settings : Settings} {parts : List Part} {out : Change} {Leaves : ℕ → List Part → Type 0} → Leaves 0 parts
     → IsUnwritten out → IsLed settings parts (Gains out) Leaves
-IsLed-none {parts = parts} leaves unwritten = record {
-  led = [];
-  rest = parts;
-  are = refl;
-  text = [];
-  has = refl;
-  is = unwritten;
-  leaves = leaves;
-}
+IsLed-none {parts = parts} leaves unwritten = grind arith
 
 -- a part that stands alone has a slot without a scramble
 pub first-stopped : {settings : Settings} {part : Part} {out : Change} (k : ℕ) (missing : Missing)
     → IsStopped settings missing k (part ∷ []) → IsUnwritten out
     → EndsParts settings k (part ∷ []) out (Err (fault.DrawLimit missing))
-first-stopped {settings} {part} k missing stopped =
-    let here : k ≡ k + 0 = omega arith in
-    IsLed-none (IsStopped-before settings missing k (k + 0) (part ∷ []) [] here stopped)
+first-stopped {settings} {part} k missing stopped = grind (arith, IsLed-none, IsStopped-before)
 
 -- a part that stands alone was written in part
 pub first-broken : {settings : Settings} {part : Part} {text : List ℕ} {out : Change} → IsPartText settings part text
@@ -348,8 +263,5 @@ first-broken {settings = settings} {part = part} {text = text} is faltered = rec
 -- and whole
 pub IsWhole-first : {settings : Settings} {part : Part} {text : List ℕ} {out : Change} → IsPartText settings part text
     → Gains out text → IsWhole settings (part ∷ []) out
-IsWhole-first {settings = settings} {part = part} {text = text} is gained = done-whole (record {
-  text = text;
-  all = IsText-one (IsPartText settings) part text is;
-  gained = gained;
-})
+IsWhole-first {settings = settings} {part = part} {text = text} is gained =
+    search (arith, rules, done-whole, IsText-one)

@@ -61,8 +61,7 @@ pub load-ready : {X : Type 0} (ready : Result X BuildFault) (number : ℕ) (out 
     → IfErr ready (IsUnready (events_of (round_parts 0 (load_rounds number))))
     → EndsAfter ready (EndsSized (settings_of (load_seed number) usual_options) (load_rounds number)) out ended
     → EndsLoad number out ended
-load-ready (Ok got) number out ended fair cause ends =
-    record { sheet = ends.sheet; made = ends.made; making = inl (fair, ends.ends); told = ends.told }
+load-ready (Ok got) number out ended fair cause ends = grind arith
 load-ready (Err why) number out ended fair cause ends = record {
   sheet = [];
   made = Err (fault_of_build why);

@@ -36,16 +36,7 @@ room-first rounds room is = record { each = is.each; left = length rounds; left_
 
 -- for the one, and then for those behind it
 pub room-one : (rounds : List Round) (i : ℕ) (room : Room) → IsRoomFrom rounds i room → i < length rounds → IsRoom 1 room
-room-one rounds i room from below =
-    let is = from.is in
-    let place = from.left_is in
-    record {
-      words = omega (arith, is.words, place, below);
-      some_lane = is.some_lane;
-      few_lanes = is.few_lanes;
-      lanes = is.lanes;
-      scrambles = is.scrambles;
-    }
+room-one rounds i room from below = grind arith
 
 pub room-fits : (rounds : List Round) (i : ℕ) (room : Room) (round : Round) → IsRoomFrom rounds i room → i < length rounds
     → round ≡ get_or rounds i round → slots_of round ≤ vec_len room.answers
@@ -67,7 +58,4 @@ room-next rounds i before after from below spends = at from.left from.left_is fr
 -- room that was taken for a list
 pub taken-for : (rounds : List Round) (count slots : ℕ) (room : Room) → count ≡ length rounds → vec_len room.answers ≡ slots
     → All (λ round. slots_of round ≤ slots) rounds → IsRoom count room → IsRoomFor rounds room
-taken-for rounds count slots room same places each is = record {
-  each = subst (λ n. All (λ round. slots_of round ≤ n) rounds) (sym places) each;
-  is = subst (λ n. IsRoom n room) same is;
-}
+taken-for rounds count slots room same places each is = grind arith

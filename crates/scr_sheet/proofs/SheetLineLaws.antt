@@ -1,7 +1,6 @@
 -- The lines that a list's sheet has: each text has one answer at each, and which round a line is of.
-use Rattle.std.proofs.Common.{◌≡◌, ℕ, suc, ◌+◌, ◌-◌, ◌*◌, ◌<◌, ◌≤◌, Bool, true, false, List, [], ◌∷◌, ◌++◌, length, take, drop, get_or, Some, Ok, Err, refl, sym, ap, ◌∙◌, subst, arith, length-append, drop-cons, add-one}
+use Rattle.std.proofs.Common.{◌≡◌, ℕ, ◌+◌, ◌-◌, ◌*◌, ◌<◌, ◌≤◌, Bool, true, false, List, [], ◌∷◌, ◌++◌, length, drop, get_or, Some, Ok, Err, refl, sym, ap, ◌∙◌, subst, arith, length-append, drop-cons, add-one}
 use Rattle.std.specs.Prelude.{Result, map, slice_get}
-use Rattle.std.specs.Str.{bytes_eq}
 use Rattle.std.specs.List.{IsSplitAt}
 use Rattle.std.specs.Option.{option_map}
 use Rattle.std.proofs.lemmas.List.{length-map, drop_all, take_all, take-append-le, take-append-drop}
@@ -15,7 +14,7 @@ use Rattle.scr_list.specs.RoundLists.{IsRounds}
 use Rattle.scr_round.specs.Round.{Line, Fixed, Slot, round_lines}
 use Rattle.scr_round.proofs.LineLaws.{slice_get-left, slice_get-right}
 use Rattle.scr_slots.specs.declared.settings.Settings.{Settings}
-use Rattle.scr_slots.specs.Agreement.{TextAgrees, IsJudged}
+use Rattle.scr_slots.specs.Agreement.{IsJudged}
 use Rattle.scr_slots.specs.Events.{scrambling_of}
 use Rattle.scr_slots.specs.Slots.{first_stream}
 use Rattle.scr_sheet.specs.Check.{ListLine, list_lines, IsLineAnswer, IsAnswerAt, expected_lines, IsPlacedAt}
@@ -38,10 +37,7 @@ line_answer-one settings k round (Slot label slot) text one other first second =
 
 answer-one : (settings : Settings) (lines : List ListLine) (i : ℕ) (text : List ℕ) (one other : Result Bool Missing)
     → IsAnswerAt settings lines i text one → IsAnswerAt settings lines i text other → one ≡ other
-answer-one settings lines i text one other first second =
-    let same : second.line ≡ first.line = same_Some second.line first.line (sym second.there ∙ first.there) in
-    let P : ListLine → Type 0 = λ l. IsLineAnswer settings l.k l.round l.line text other in
-    line_answer-one settings first.line.k first.line.round first.line.line text one other first.answered (subst P same second.answered)
+answer-one settings lines i text one other first second = grind (arith, same_Some, line_answer-one)
 
 -- ---- whether a slot has a scramble depends on the line alone
 
@@ -54,9 +50,7 @@ line_missing settings k round (Slot label slot) text other missing is = is
 
 line_agreed : (settings : Settings) (k : ℕ) (round : Round) (line : Line) (text : List ℕ) → IsShort line
     → IsLineAnswer settings k round line text (Ok true) → length text ≤ 1300
-line_agreed settings k round (Fixed own) text short is =
-    let agrees : bytes_eq text own ≡ true = cc in
-    subst (λ t. length t ≤ 1300) (sym ((bytes_eq-Decides text own).0 agrees)) short
+line_agreed settings k round (Fixed own) text short is = grind (arith, bytes_eq-Decides)
 line_agreed settings k round (Slot label slot) text short is =
     let it = is.1.0 refl in
     let behind = agreed-short (scrambling_of round.event) settings round.least (first_stream k + slot) it.behind it.agrees in
@@ -86,9 +80,7 @@ lines_at k round = map (λ line. record { k = k; round = round; line = line }) (
 -- the lines of the rounds that are left are those of the next one, and those behind it
 lines-next : (rounds : List Round) (i : ℕ) (round : Round) → round ≡ get_or rounds i round → i < length rounds
     → list_lines i (drop i rounds) ≡ lines_at i round ++ list_lines (i + 1) (drop (i + 1) rounds)
-lines-next rounds i round is below =
-    ap (list_lines i) (drop-cons rounds i round below) ∙ ap (λ (r : Round). list_lines i (r ∷ drop (suc i) rounds)) (sym is)
-    ∙ ap (λ n. lines_at i round ++ list_lines (i + 1) (drop n rounds)) (sym (add-one i))
+lines-next rounds i round is below = grind (arith, drop-cons, add-one)
 
 length-next : (rounds : List Round) (i count : ℕ) (round : Round) → round ≡ get_or rounds i round → i < length rounds
     → length (round_lines i round) ≡ count
@@ -108,9 +100,7 @@ pub record AreCounted (rounds : List Round) (i total : ℕ) : Type 0 where
 pub counted-more : (rounds : List Round) (i total count : ℕ) (round : Round) → round ≡ get_or rounds i round
     → i < length rounds → length (round_lines i round) ≡ count → count ≤ 235 → AreCounted rounds i total
     → AreCounted rounds (i + 1) (total + count)
-counted-more rounds i total count round is below size few counted =
-    let next = length-next rounds i count round is below size in
-    record { parts = omega (arith, next, counted.parts); few = omega (arith, few, counted.few) }
+counted-more rounds i total count round is below size few counted = grind (arith, length-next)
 
 -- none is left
 lines-none : (rounds : List Round) (i : ℕ) → length rounds ≤ i → length (list_lines i (drop i rounds)) ≡ 0
@@ -171,13 +161,11 @@ left-none rounds line i left past it = let none = lines-none rounds i past in le
 -- a text that is cut behind as many bytes as a label has begins with it where the front is the label
 pub label_before : (label text front behind : List ℕ) → IsSplitAt text (length label) front behind → front ≡ label
     → text ≡ label ++ behind
-label_before label text front behind split same =
-    sym (take-append-drop (length label) text) ∙ ap (λ x. x ++ drop (length label) text) (sym split.1 ∙ same) ∙ ap (λ x. label ++ x) (sym split.2)
+label_before label text front behind split same = grind (arith, take-append-drop)
 
 pub no_label_before : (label text front behind other : List ℕ) → IsSplitAt text (length label) front behind
     → text ≡ label ++ other → (front ≡ label → ⊥) → ⊥
-no_label_before label text front behind other split is differs =
-    differs (split.1 ∙ ap (take (length label)) is ∙ take-append-le (length label) label other (omega arith) ∙ take_all (length label) label (omega arith))
+no_label_before label text front behind other split is differs = grind (arith, take-append-le, take_all)
 
 cancelled : (label behind other : List ℕ) → label ++ behind ≡ label ++ other → behind ≡ other
 cancelled [] behind other same = same
@@ -188,15 +176,7 @@ pub slot-judged : (settings : Settings) (k : ℕ) (round : Round) (label : List 
     → text ≡ label ++ behind
     → IsJudged (scrambling_of round.event) settings round.least (first_stream k + slot) behind (Some told)
     → IsLineAnswer settings k round (Slot label slot) text (Ok told)
-slot-judged settings k round label slot text behind told is judged = (
-  judged.0,
-  (
-    λ agrees. record { behind = behind; is = is; agrees = judged.1.0 agrees },
-    λ it.
-        let same : it.behind ≡ behind = cancelled label it.behind behind (sym it.is ∙ is) in
-        judged.1.1 (subst (TextAgrees (scrambling_of round.event) settings round.least (first_stream k + slot)) same it.agrees),
-  ),
-)
+slot-judged settings k round label slot text behind told is judged = grind (arith, cancelled)
 
 -- and without the label nothing agrees
 pub slot-unlabelled : (settings : Settings) (k : ℕ) (round : Round) (label : List ℕ) (slot : ℕ) (text other : List ℕ) (told : Bool)

@@ -1,12 +1,12 @@
 -- The lines of a list's sheet are short, whatever stands in them.
-use Rattle.std.proofs.Common.{◌≡◌, ℕ, zero, suc, ◌+◌, ◌<◌, ◌≤◌, List, [], ◌∷◌, ◌++◌, length, Some, true, refl, subst, arith, lit≤, length-append, leb-true}
+use Rattle.std.proofs.Common.{◌≡◌, ℕ, zero, suc, ◌+◌, ◌<◌, ◌≤◌, List, [], ◌∷◌, ◌++◌, length, Some, true, refl, subst, arith, lit≤, length-append, leb-true, rules}
 use Rattle.std.specs.Prelude.{All, Option, None, map, codes, nat_le, slice_get}
 use Rattle.std.specs.Fmt.{decimal}
 use Rattle.std.proofs.lemmas.Fmt.{length-decimal-le}
 use Rattle.std.proofs.lemmas.List.Elements.{All-nil, All-cons, All-head, All-tail, All-append, All-map, All-get_or}
 use Rattle.std.proofs.lemmas.Option.{get_or_from_slice_get, slice_get_within}
 use Rattle.scr_notation.specs.declared.event.Minima.{Minima}
-use Rattle.scr_notation.specs.Event.{name_of, per_group_of, minima_of, greatest_of}
+use Rattle.scr_notation.specs.Event.{name_of, minima_of, greatest_of}
 use Rattle.scr_notation.proofs.EachEvent.{each_passes}
 use Rattle.scr_notation.proofs.TextLaws.{length-text_of}
 use Rattle.scr_text.specs.Lines.{has_bytes}
@@ -33,9 +33,7 @@ IsShort (Slot label slot) = length label ≤ 20
 -- ---- a round
 
 labels-short : (number own : ℕ) → number + own < 100 → All (λ label. length label ≤ 20) (labels_from number own)
-labels-short number zero few =
-    All-cons (λ label. length label ≤ 20) (codes "E1. ") (codes "E2. " ∷ []) (lit≤ tt)
-    (All-cons (λ label. length label ≤ 20) (codes "E2. ") [] (lit≤ tt) (All-nil (λ label. length label ≤ 20)))
+labels-short number zero few = grind (arith, All-cons, All-nil)
 labels-short number (suc own) few =
     let digits = length-decimal-le 2 number (omega arith) (omega arith) (omega arith) in
     let size = length-append (decimal number) (codes ". ") in
@@ -59,30 +57,20 @@ group_lines-short own letter slot few =
 groups_lines-short : (own groups letter slot : ℕ) → own < 90 → All IsShort (groups_lines own groups letter slot)
 groups_lines-short own zero letter slot few = All-nil IsShort
 groups_lines-short own (suc more) letter slot few =
-    All-append IsShort (group_lines own letter slot) (groups_lines own more (letter + 1) (slot + (own + 2)))
-    (group_lines-short own letter slot few) (groups_lines-short own more (letter + 1) (slot + (own + 2)) few)
+    let more = groups_lines-short own more (letter + 1) (slot + (own + 2)) few in
+    search (arith, rules, All-append, group_lines-short)
 
 minimum-short : (minima : Option Minima) (least : ℕ) → least < 100 → length (minimum_text minima least) ≤ 20
 minimum-short None least few = lit≤ tt
-minimum-short (Some minima) least few =
-    let digits = length-decimal-le 2 least (omega arith) (omega arith) (omega arith) in
-    let size = length-append (codes ", at least ") (decimal least) in
-    omega (arith, digits, size)
+minimum-short (Some minima) least few = grind (arith, length-decimal-le, length-append)
 
 own_name-short : (name : List ℕ) → (has_bytes name ≡ true → IsName name) → length (own_name_text name) ≤ 100
 own_name-short [] named = lit≤ tt
-own_name-short (byte ∷ name) named =
-    let few = (is_name-HasNameBytes (byte ∷ name) (named refl).test).few in
-    omega (arith, few)
+own_name-short (byte ∷ name) named = grind (arith, is_name-HasNameBytes)
 
 joined-short : (number name minimum own : List ℕ) → length number + length name + length minimum + length own ≤ 1290
     → length (codes "Round " ++ number ++ codes ": " ++ name ++ minimum ++ own) ≤ 1300
-joined-short number name minimum own few =
-    let first = length-append number (codes ": ") in
-    let second = length-append (number ++ codes ": ") name in
-    let third = length-append (number ++ codes ": " ++ name) minimum in
-    let fourth = length-append (number ++ codes ": " ++ name ++ minimum) own in
-    omega (arith, few, first, second, third, fourth)
+joined-short number name minimum own few = grind (arith, length-append)
 
 heading-short : (k : ℕ) (round : Round) → k < 256 → IsRound round → length (heading k round) ≤ 1300
 heading-short k round below is =
@@ -95,10 +83,7 @@ heading-short k round below is =
     (omega (arith, digits, name, minimum, own))
 
 round_lines-short : (k : ℕ) (round : Round) → k < 256 → IsRound round → All IsShort (round_lines k round)
-round_lines-short k round below is =
-    let few = leb-true (per_group_of round.event) 5 (each_passes (λ e. nat_le (per_group_of e) 5) refl round.event) in
-    All-cons IsShort (Fixed (heading k round)) (groups_lines (per_group_of round.event) round.groups 65 0) (heading-short k round below is)
-    (groups_lines-short (per_group_of round.event) round.groups 65 0 (omega (arith, few)))
+round_lines-short k round below is = grind (arith, leb-true, each_passes, All-cons, heading-short, groups_lines-short)
 
 -- ---- a list
 

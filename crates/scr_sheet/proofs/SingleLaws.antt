@@ -1,5 +1,5 @@
 -- The commands that write one scramble.
-use Rattle.std.proofs.Common.{◌≡◌, ℕ, ◌*◌, List, [], ◌∷◌, ◌++◌, Ok, Err, inl, refl, arith}
+use Rattle.std.proofs.Common.{◌≡◌, ℕ, ◌*◌, List, [], ◌∷◌, ◌++◌, Ok, Err, inl, refl, arith, rules}
 use Rattle.std.specs.Prelude.{Result, Option}
 use Rattle.std.proofs.lemmas.List.Elements.{All-nil, All-cons}
 use Rattle.scr_outside.specs.Change.{Change, Gains, Falters, Writes}
@@ -38,26 +38,19 @@ module _ {settings : Settings} {event : Event} (side : Option ℕ) where
   -- it was written whole
   pub single-done : {out : Change} (scramble : Written) → IsSlotScramble (scrambling_of event) settings 0 0 scramble
       → Gains out (single_text side scramble.turns) → EndsParts settings 0 (single_part event side ∷ []) out (Ok tt)
-  single-done scramble slot gains =
-      IsWhole-first (written scramble slot) gains
+  single-done scramble slot gains = search (arith, rules, IsWhole-first, written)
 
   -- it was written in part
   pub single-broken : {out : Change} (scramble : Written) → IsSlotScramble (scrambling_of event) settings 0 0 scramble
       → Falters out (single_text side scramble.turns)
       → EndsParts settings 0 (single_part event side ∷ []) out (Err fault.Write)
-  single-broken scramble slot falters =
-      first-broken (written scramble slot) falters
+  single-broken scramble slot falters = search (arith, rules, first-broken, written)
 
   -- there is none
   pub single-limit : {out : Change} (missing : Missing) → HasNoScramble (scrambling_of event) settings 0 0
       → missing ≡ record { round = 1; slot = 1; words = 3 * settings.attempts } → IsUnwritten out
       → EndsParts settings 0 (single_part event side ∷ []) out (Err (fault.DrawLimit missing))
-  single-limit missing none told =
-      first-stopped 0 missing (
-        0,
-        told,
-        record { below = omega arith; nothing = none; before = []; all_before = record { each_slot = refl; each = tt } },
-      )
+  single-limit missing none told = grind (arith, first-stopped)
 
 -- the one part is drawn fairly, however it ends
 pub single-making : (settings : Settings) (event : Event) (side : Option ℕ) {out : Change} {ended : Result (Unit {0}) Fault}

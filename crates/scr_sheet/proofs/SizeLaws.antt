@@ -1,5 +1,5 @@
 -- Rounds that are made one after another and counted.
-use Rattle.std.proofs.Common.{◌≡◌, ℕ, ◌+◌, ◌<◌, List, [], ◌∷◌, ◌++◌, length, drop, get_or, Ok, Err, refl, sym, ap, subst, ◌∙◌, append_assoc, append-nil, length-append, arith}
+use Rattle.std.proofs.Common.{◌≡◌, ℕ, ◌+◌, ◌<◌, List, [], ◌∷◌, ◌++◌, length, drop, get_or, Ok, Err, refl, sym, ap, ◌∙◌, append_assoc, append-nil, length-append, arith}
 use Rattle.std.proofs.lemmas.List.Sums.{sum_by-append}
 use Rattle.std.specs.Prelude.{Some}
 use Rattle.scr_outside.proofs.ChangeLemmas.{from_to, Gains-nothing}
@@ -30,14 +30,7 @@ sized-none settings parts = record { sheet = []; made = made-none; amounts = rec
 
 IsSizeOf-append : (text more : List ℕ) (size added : Size) → IsSizeOf text size → IsSizeOf more added
     → IsSizeOf (text ++ more) (with_more size added)
-IsSizeOf-append text more size added first second =
-    let bytes = length-append text more in
-    let sums = sum_by-append (λ x. x) text more in
-    let counted = first.counted in
-    let counted' = second.counted in
-    let sum = first.added in
-    let sum' = second.added in
-    record { counted = omega (arith, bytes, counted, counted'); added = omega (arith, sums, sum, sum') }
+IsSizeOf-append text more size added first second = grind (arith, length-append, sum_by-append)
 
 -- one more round
 pub sized-more : {settings : Settings} {size more : Size} (rounds : List Round) (i : ℕ) (round : Round)
@@ -96,5 +89,4 @@ counted-more {rest = rest} {size = size} {more = more} left line is counted own 
 }
 
 pub counted-all : {whole : List ℕ} {size : Size} (left : List ℕ) → left ≡ [] → IsCountedUpTo whole left size → IsSizeOf whole size
-counted-all {size = size} left none counted =
-    subst (λ text. IsSizeOf text size) (sym (append-nil counted.text) ∙ ap (λ x. counted.text ++ x) (sym none) ∙ counted.parts) counted.amounts
+counted-all {size = size} left none counted = grind (arith, append-nil)

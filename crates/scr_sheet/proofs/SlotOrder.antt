@@ -1,13 +1,11 @@
 -- The scrambles of a round stand in order in its text.
-use Rattle.std.proofs.Common.{◌≡◌, ℕ, zero, suc, ◌+◌, ◌*◌, ◌<◌, ◌≤◌, ◌==◌, ◌||◌, Bool, false, List, [], ◌∷◌, ◌++◌, map, drop, length, refl, sym, ap, subst, ◌∙◌, arith, append_assoc, All}
+use Rattle.std.proofs.Common.{◌≡◌, ℕ, zero, suc, ◌+◌, ◌*◌, ◌<◌, ◌≤◌, ◌||◌, false, List, [], ◌∷◌, ◌++◌, map, drop, length, refl, sym, ap, subst, ◌∙◌, arith, append_assoc, All}
 use Rattle.std.proofs.lemmas.Bool.{ne_eqb, ltb-true}
 use Rattle.std.proofs.lemmas.Fmt.{decimal_digit}
 use Rattle.std.proofs.lemmas.List.{drop_more, drop_all}
 use Rattle.std.proofs.lemmas.List.Folds.{list_any-append}
 use Rattle.std.proofs.lemmas.List.Elements.{All-nil, All-head, All-tail, All-cons}
-use Rattle.std.specs.Prelude.{codes, slice_index_or, nat_lt}
-use Rattle.std.specs.Fmt.{decimal}
-use Rattle.std.specs.List.{list_any}
+use Rattle.std.specs.Prelude.{codes, slice_index_or}
 use Rattle.scr_notation.specs.declared.event.Event.{Event}
 use Rattle.scr_notation.specs.declared.turn.Turn.{Turn}
 use Rattle.scr_notation.specs.Event.{per_group_of}
@@ -21,9 +19,7 @@ use Rattle.scr_sheet.specs.Headline.{HasNoDot, StandInOrder, no_more, next}
 
 -- two lines with no dot
 HasNoDot-line : (line text : List ℕ) → HasNoDot line → HasNoDot text → HasNoDot (line ++ 10 ∷ text)
-HasNoDot-line line text no_dot bare =
-    let is_dot : ℕ → Bool = λ byte. byte == 46 in
-    list_any-append is_dot line (10 ∷ text) ∙ ap (λ b. b || list_any is_dot text) no_dot ∙ bare
+HasNoDot-line line text no_dot bare = grind (arith, list_any-append)
 
 -- ---- labels
 
@@ -42,17 +38,11 @@ labels_of number zero small =
     All-cons IsLabel (codes "E1. ") (codes "E2. " ∷ []) (label_of (codes "E1") refl)
     (All-cons IsLabel (codes "E2. ") [] (label_of (codes "E2") refl) (All-nil IsLabel))
 labels_of number (suc own) small =
-    let digit = 48 + number in
-    let no_dot : HasNoDot (digit ∷ []) = ap (λ b. b || false) (ne_eqb digit 46 (λ is. omega (arith, is))) in
-    let decimal_is : decimal number ≡ digit ∷ [] = decimal_digit number (omega (arith, small)) in
-    All-cons IsLabel (decimal number ++ codes ". ") (labels_from (number + 1) own)
-    (label_of (decimal number) (subst HasNoDot (sym decimal_is) no_dot)) (labels_of (number + 1) own (omega (arith, small)))
+    grind (arith, ne_eqb, decimal_digit, All-cons, label_of, labels_of (number + 1) own (omega (arith, small)))
 
 -- those of a round's groups
 round-labels : (event : Event) → All IsLabel (labels_from 1 (per_group_of event))
-round-labels event =
-    let few : per_group_of event < 10 = ltb-true (per_group_of event) 10 (each_passes (λ e. nat_lt (per_group_of e) 10) refl event) in
-    labels_of 1 (per_group_of event) (omega (arith, few))
+round-labels event = grind (arith, ltb-true, each_passes, labels_of)
 
 -- ---- the lines of a round
 
@@ -94,9 +84,7 @@ module _ (all : List (List Turn)) where
   From-slots : (labels : List (List ℕ)) (place behind : ℕ) (lines : List Line) → All IsLabel labels
       → behind ≡ place + length labels → behind ≤ length all → From behind lines
       → From place (slot_lines labels place ++ lines)
-  From-slots [] place behind lines are follows within below =
-      let same : behind ≡ place = omega (arith, follows) in
-      subst (λ n. From n lines) same below
+  From-slots [] place behind lines are follows within below = grind arith
   From-slots (label ∷ labels) place behind lines are follows within below =
       From-slot label place (slot_lines labels (place + 1) ++ lines) (All-head IsLabel label labels are) (omega (arith, follows, within))
       (From-slots labels (place + 1) behind lines (All-tail IsLabel label labels are) (omega (arith, follows)) within below)
