@@ -1,5 +1,5 @@
 -- What follows once all workers have returned.
-use Rattle.std.proofs.Common.{◌≡◌, ℕ, zero, suc, ◌+◌, ◌<◌, ◌≤◌, List, [], ◌∷◌, ◌++◌, map, length, get_or, set, drop}
+use Rattle.std.proofs.Common.{◌≡◌, ℕ, zero, suc, ◌+◌, ◌<◌, ◌≤◌, List, [], ◌∷◌, map, length, get_or, set, drop}
 use Rattle.std.proofs.Common.{suc-mul, ◌*◌, None, refl, sym, ap, ◌∙◌, subst, arith}
 use Rattle.std.specs.Prelude.{All, sum_by}
 use Rattle.std.proofs.lemmas.Bool.Decides.{nat_tests}
@@ -22,27 +22,21 @@ module _ {A : Type 0} where
   pub sum_by-same : (f g : A → ℕ) (xs : List A) → All (λ x. f x ≡ g x) xs → sum_by f xs ≡ sum_by g xs
   sum_by-same f g [] same = refl
   sum_by-same f g (x ∷ xs) same =
-      let here : f x ≡ g x = All-head (λ x. f x ≡ g x) x xs same in
-      let r = sum_by-same f g xs (All-tail (λ x. f x ≡ g x) x xs same) in
-      omega (arith, sum_by-cons f x xs, sum_by-cons g x xs)
+      grind (arith, All-head, All-tail, sum_by-cons, sum_by-same f g xs (All-tail (λ x. f x ≡ g x) x xs same))
 
   pub sum_by-each : (f : A → ℕ) (n : ℕ) (xs : List A) → All (λ x. f x ≡ n) xs → sum_by f xs ≡ length xs * n
   sum_by-each f n [] same = omega arith
   sum_by-each f n (x ∷ xs) same =
-      let here : f x ≡ n = All-head (λ x. f x ≡ n) x xs same in
-      let r = sum_by-each f n xs (All-tail (λ x. f x ≡ n) x xs same) in
-      let cons = sum_by-cons f x xs in
-      omega (arith, suc-mul (length xs) n)
+      grind (arith, All-head, All-tail, sum_by-cons, suc-mul, sum_by-each f n xs (All-tail (λ x. f x ≡ n) x xs same))
 
   pub sum_by-agree : (f : A → ℕ) (xs ys : List A) → length ys ≡ length xs
       → ((i : ℕ) (d : A) → i < length xs → f (get_or ys i d) ≡ f (get_or xs i d)) → sum_by f ys ≡ sum_by f xs
   sum_by-agree f [] [] len same = refl
-  sum_by-agree f [] (y ∷ ys) len same = absurd (omega arith)
-  sum_by-agree f (x ∷ xs) [] len same = absurd (omega arith)
   sum_by-agree f (x ∷ xs) (y ∷ ys) len same =
       let here : f y ≡ f x = same 0 x (omega arith) in
       let r = sum_by-agree f xs ys (omega arith) (λ i d h. same (suc i) d (omega arith)) in
       omega (arith, sum_by-cons f x xs, sum_by-cons f y ys)
+  sum_by-agree f xs ys len same = absurd (omega arith)
 
   pub sum_by-map' : {B : Type 0} (f : B → ℕ) (g : A → B) (xs : List A) → sum_by f (map g xs) ≡ sum_by (λ x. f (g x)) xs
   sum_by-map' f g [] = refl
@@ -76,18 +70,12 @@ weigh_below-only x (suc n) = let r = weigh_below-only x n in grind (arith, nat_t
 earlier_from : (m : ℕ) (xs : List ℕ) → All (λ k. k < m) xs → weigh (from m) xs ≡ 0
 earlier_from m [] below = refl
 earlier_from m (x ∷ xs) below =
-    let here : x < m = All-head (λ k. k < m) x xs below in
-    let r = earlier_from m xs (All-tail (λ k. k < m) x xs below) in
-    let e = not_from m x here in
-    omega arith
+    grind (arith, All-head, All-tail, not_from, earlier_from m xs (All-tail (λ k. k < m) x xs below))
 
 earlier_only : (m x : ℕ) (xs : List ℕ) → m ≤ x → All (λ k. k < m) xs → times x xs ≡ 0
 earlier_only m x [] above below = refl
 earlier_only m x (y ∷ ys) above below =
-    let here : y < m = All-head (λ k. k < m) y ys below in
-    let r = earlier_only m x ys above (All-tail (λ k. k < m) y ys below) in
-    let e = only-other x y (λ (s : y ≡ x). absurd (omega arith)) in
-    omega arith
+    grind (arith, All-head, All-tail, only-other, earlier_only m x ys above (All-tail (λ k. k < m) y ys below))
 
 is_from : (m x : ℕ) → m ≤ x → from m x ≡ 1
 is_from m x h = grind (arith, nat_tests)
@@ -96,37 +84,21 @@ is_from m x h = grind (arith, nat_tests)
 All-unmapped : {A B : Type 0} (P : B → Type 0) (f : A → B) (xs : List A) → All P (map f xs) → All (λ x. P (f x)) xs
 All-unmapped P f [] all = All-nil (λ x. P (f x))
 All-unmapped P f (x ∷ xs) all =
-    let others = All-unmapped P f xs (All-tail P (f x) (map f xs) all) in
-    All-cons (λ x. P (f x)) x xs (All-head P (f x) (map f xs) all) others
+    grind (arith, All-tail, All-cons, All-head, All-unmapped P f xs (All-tail P (f x) (map f xs) all))
 
 module _ {T : Type 0} (word_of : TableId) (slots : ℕ) (IsAnswer : ℕ → T → Type 0) where
   -- one number of a lane is no slot
   last_one : (l : Lane T) → HasRun word_of slots IsAnswer l → weigh (from slots) (list_in l.seat) ≡ 1
-  last_one l run =
-      let w = run.worked in
-      let list : list_in l.seat ≡ w.earlier ++ w.last ∷ [] = ap list_in run.seat_is ∙ w.list_is in
-      let cut = ap (weigh (from slots)) list ∙ weigh-append (from slots) w.earlier (w.last ∷ []) in
-      let none_there = earlier_from slots w.earlier w.below in
-      let one = is_from slots w.last w.last_is in
-      omega arith
+  last_one l run = grind (arith, weigh-append, earlier_from, is_from)
 
   -- a slot stands in the own list as often as the seat claimed it
   own_times : (x : ℕ) → x < slots → (l : Lane T) → HasRun word_of slots IsAnswer l
       → times x (map slot_of l.own.items) ≡ times x (list_in l.seat)
-  own_times x below l run =
-      let w = run.worked in
-      let list : list_in l.seat ≡ w.earlier ++ w.last ∷ [] = ap list_in run.seat_is ∙ w.list_is in
-      let cut = ap (times x) list ∙ weigh-append (only x) w.earlier (w.last ∷ []) in
-      let own = ap (times x) w.own_slots in
-      let last_is = w.last_is in
-      let other = only-other x w.last (λ (s : w.last ≡ x). absurd (omega arith)) in
-      omega arith
+  own_times x below l run = grind (arith, weigh-append, only-other)
 
   own_none : (x : ℕ) → slots ≤ x → (l : Lane T) → HasRun word_of slots IsAnswer l
       → times x (map slot_of l.own.items) ≡ 0
-  own_none x above l run =
-      let w = run.worked in
-      ap (times x) w.own_slots ∙ earlier_only slots x w.earlier above w.below
+  own_none x above l run = grind (arith, earlier_only)
 
   own_answers : (l : Lane T) → HasRun word_of slots IsAnswer l → All (HasSlotAnswer slots IsAnswer) l.own.items
   own_answers l run =

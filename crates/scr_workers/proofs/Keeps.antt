@@ -1,5 +1,5 @@
 -- Each kind of step keeps the rule of the claim word.
-use Rattle.std.proofs.Common.{◌≡◌, ◌≢◌, ℕ, zero, suc, ◌+◌, ◌-◌, ◌%◌, ◌^◌, ◌<◌, ◌≤◌, List, [], ◌∷◌, ◌++◌, length}
+use Rattle.std.proofs.Common.{◌≡◌, ℕ, zero, suc, ◌+◌, ◌-◌, ◌%◌, ◌^◌, ◌<◌, ◌≤◌, List, [], ◌∷◌, ◌++◌, length}
 use Rattle.std.proofs.Common.{get_or, set, sym, refl, ap, ◌∙◌, subst, ⊎_elim, arith, length-set, get_or-set_same}
 use Rattle.std.specs.Prelude.{slice_index, All}
 use Rattle.std.proofs.lemmas.List.Elements.{All-head, All-tail}
@@ -80,22 +80,30 @@ set_same : (xs : List ℕ) → length xs ≡ 1 → set xs 0 (get_or xs 0 0) ≡ 
 set_same [] e = absurd (omega arith)
 set_same (x ∷ xs) e = refl
 
-pub opens : IsKept (0 ∷ []) (claims 64 [] ∷ [])
-opens = record {
-  one_word = refl;
-  once = λ h. refl;
-  weights = refl;
-  late_most = only;
-  idle = empty;
-}
-  where
-    only : (seat : ℕ) (v : Claims) → get_elem? (claims 64 [] ∷ []) seat ≡ some v → late v ≤ v.weight
-    only zero v e = subst (λ (u : Claims). late u ≤ u.weight) (some-injective (claims 64 []) v e) (omega arith)
-    only (suc seat) v e = absurd (some-ne-none v (sym e))
+-- what is so of each view
+abbrev EachView : (Claims → Type 0) → List Claims → Type 0
+EachView P views = (seat : ℕ) (v : Claims) → get_elem? views seat ≡ some v → P v
 
-    empty : (seat : ℕ) (v : Claims) → get_elem? (claims 64 [] ∷ []) seat ≡ some v → v.weight ≡ 0 → v.list ≡ []
-    empty zero v e = subst (λ (u : Claims). u.weight ≡ 0 → u.list ≡ []) (some-injective (claims 64 []) v e) (λ _. refl)
-    empty (suc seat) v e = absurd (some-ne-none v (sym e))
+abbrev IsEarly : Claims → Type 0
+IsEarly v = late v ≤ v.weight
+
+abbrev IsIdle : Claims → Type 0
+IsIdle v = v.weight ≡ 0 → v.list ≡ []
+
+-- stays so where one of which it is so comes in a view's place, or behind the others
+EachView-set : (P : Claims → Type 0) (views : List Claims) (id : ℕ) (w : Claims) → EachView P views → P w
+    → EachView P (set views id w)
+EachView-set P views id w each own seat u e = grind (arith, ⊎_elim, at_set)
+
+EachView-snoc : (P : Claims → Type 0) (views : List Claims) (w : Claims) → EachView P views → P w
+    → EachView P (views ++ w ∷ [])
+EachView-snoc P views w each own seat u e = grind (arith, ⊎_elim, at_snoc)
+
+EachView-one : (P : Claims → Type 0) (w : Claims) → P w → EachView P (w ∷ [])
+EachView-one P w = EachView-snoc P [] w (λ seat u e. absurd (some-ne-none u (sym e)))
+
+pub opens : IsKept (0 ∷ []) (claims 64 [] ∷ [])
+opens = grind (arith, EachView-one)
 
 -- a claim: the old word goes to the end of the list
 pub claims_keep : (slots id : ℕ) (m : Me (Unit {0}) Claims) → 1 ≤ m.0.weight → weigh (from 4294967296) m.0.list ≡ 0
@@ -125,19 +133,10 @@ claims_keep slots id m some_weight early s kept _ at small =
             let goal : over_views f (set s.views id w) ≡ weigh_below h (suc word) = omega arith in
             subst (λ k. over_views f (set s.views id w) ≡ weigh_below h k) (sym found) goal;
         weights = let sum = total_set (λ u. u.weight) s.views id v w at in let k = kept.weights in omega arith;
-        late_most = λ seat u e.
-            ⊎_elim
-            (λ (x : (seat ≡ id) × (w ≡ u)). subst (λ (y : Claims). late y ≤ y.weight) x.1
+        late_most = EachView-set IsEarly s.views id w kept.late_most
             (let more = weigh-append (from 4294967296) list (word ∷ []) in
-            let one = from_one 4294967296 word in omega arith))
-            (λ (x : (seat ≢ id) × (get_elem? s.views seat ≡ some u)). kept.late_most seat u x.1)
-            (at_set s.views id seat w u e);
-        idle = λ seat u e.
-            ⊎_elim
-            (λ (x : (seat ≡ id) × (w ≡ u)).
-            subst (λ (y : Claims). y.weight ≡ 0 → y.list ≡ []) x.1 (λ empty. absurd (omega arith)))
-            (λ (x : (seat ≢ id) × (get_elem? s.views seat ≡ some u)). kept.idle seat u x.1)
-            (at_set s.views id seat w u e);
+            let one = from_one 4294967296 word in omega arith);
+        idle = EachView-set IsIdle s.views id w kept.idle (λ empty. absurd (omega arith));
       },
       (refl, omega (arith, weigh-length list, weigh_below-one word)),
     )
@@ -157,24 +156,9 @@ cut_keeps id weight two s kept at =
           let sum = total_set f s.views id v w at in
           let more = total_snoc f (set s.views id w) part in
           let before = kept.weights in omega arith;
-      late_most = λ seat u e.
-          ⊎_elim
-          (λ (y : get_elem? (set s.views id w) seat ≡ some u).
-          ⊎_elim
-          (λ (x : (seat ≡ id) × (w ≡ u)). subst (λ (y : Claims). late y ≤ y.weight) x.1 (omega arith))
-          (λ (x : (seat ≢ id) × (get_elem? s.views seat ≡ some u)). kept.late_most seat u x.1)
-          (at_set s.views id seat w u y))
-          (λ (y : part ≡ u). subst (λ (y : Claims). late y ≤ y.weight) y (omega arith))
-          (at_snoc (set s.views id w) part u seat e);
-      idle = λ seat u e.
-          ⊎_elim
-          (λ (y : get_elem? (set s.views id w) seat ≡ some u).
-          ⊎_elim
-          (λ (x : (seat ≡ id) × (w ≡ u)). subst (λ (y : Claims). y.weight ≡ 0 → y.list ≡ []) x.1 (λ _. refl))
-          (λ (x : (seat ≢ id) × (get_elem? s.views seat ≡ some u)). kept.idle seat u x.1)
-          (at_set s.views id seat w u y))
-          (λ (y : part ≡ u). subst (λ (y : Claims). y.weight ≡ 0 → y.list ≡ []) y (λ _. refl))
-          (at_snoc (set s.views id w) part u seat e);
+      late_most = EachView-snoc IsEarly _ part (EachView-set IsEarly s.views id w kept.late_most (omega arith))
+          (omega arith);
+      idle = EachView-snoc IsIdle _ part (EachView-set IsIdle s.views id w kept.idle (λ _. refl)) (λ _. refl);
     }
 
 -- two seats become one
@@ -195,28 +179,14 @@ join_keeps id other v w s kept at apart there =
           let sum = total_set f s.views id v both at in
           let sum' = total_set f first other w spent there in
           let before = kept.weights in omega arith;
-      late_most = λ seat u e.
-          ⊎_elim
-          (λ (x : (seat ≡ other) × (spent ≡ u)). subst (λ (y : Claims). late y ≤ y.weight) x.1 (omega arith))
-          (λ (x : (seat ≢ other) × (get_elem? first seat ≡ some u)).
-          ⊎_elim
-          (λ (y : (seat ≡ id) × (both ≡ u)). subst (λ (y : Claims). late y ≤ y.weight) y.1
-          (let more = weigh-append (from 4294967296) v.list w.list in omega arith))
-          (λ (y : (seat ≢ id) × (get_elem? s.views seat ≡ some u)). kept.late_most seat u y.1)
-          (at_set s.views id seat both u x.1))
-          (at_set first other seat spent u e);
-      idle = λ seat u e.
-          ⊎_elim
-          (λ (x : (seat ≡ other) × (spent ≡ u)). subst (λ (y : Claims). y.weight ≡ 0 → y.list ≡ []) x.1 (λ _. refl))
-          (λ (x : (seat ≢ other) × (get_elem? first seat ≡ some u)).
-          ⊎_elim
-          (λ (y : (seat ≡ id) × (both ≡ u)). subst (λ (y : Claims). y.weight ≡ 0 → y.list ≡ []) y.1
+      late_most = EachView-set IsEarly first other spent
+          (EachView-set IsEarly s.views id both kept.late_most
+          (let more = weigh-append (from 4294967296) v.list w.list in omega arith)) (omega arith);
+      idle = EachView-set IsIdle first other spent
+          (EachView-set IsIdle s.views id both kept.idle
           (λ empty. let a : v.list ≡ [] = kept.idle id v at (omega arith) in
           let b : w.list ≡ [] = kept.idle other w there' (omega arith) in
-          λ i. a i ++ b i))
-          (λ (y : (seat ≢ id) × (get_elem? s.views seat ≡ some u)). kept.idle seat u y.1)
-          (at_set s.views id seat both u x.1))
-          (at_set first other seat spent u e);
+          λ i. a i ++ b i)) (λ _. refl);
     }
 
 all_idle : (f : Claims → ℕ) (views : List Claims) → over_views (λ u. u.weight) views ≡ 0
@@ -267,10 +237,7 @@ look_keeps slots id m whole s kept _ at small =
 pub no_late : (slots : ℕ) (xs : List ℕ) → slots ≤ 4294967296 → All (λ k. k < slots) xs → weigh (from 4294967296) xs ≡ 0
 no_late slots [] most below = refl
 no_late slots (x ∷ xs) most below =
-    let here : x < slots = All-head (λ k. k < slots) x xs below in
-    let r = no_late slots xs most (All-tail (λ k. k < slots) x xs below) in
-    let none_here : from 4294967296 x ≡ 0 = not_from 4294967296 x (omega arith) in
-    omega arith
+    grind (arith, All-head, All-tail, not_from, no_late slots xs most (All-tail (λ k. k < slots) x xs below))
 
 pub cut_keeps' : (id : ℕ) (v : Claims) → 2 ≤ v.weight → v.list ≡ [] → Splits Holds id v (rest_of v) (part_of v)
 cut_keeps' id v two none_yet =

@@ -1,12 +1,10 @@
 -- One answer put in its place.
-use Rattle.std.proofs.Common.{◌≡◌, ◌≢◌, ◌⊎◌, ℕ, ◌<◌, List, [], ◌∷◌, ◌++◌, map, length, set, Some, None, inl, inr}
-use Rattle.std.proofs.Common.{⊎_elim, sym, ap, subst, arith, length-set, get_or-set_same, get_or-set_other}
-use Rattle.std.specs.Prelude.{Option, IsSomeAnd, All}
+use Rattle.std.proofs.Common.{◌≡◌, ◌≢◌, ◌⊎◌, ℕ, ◌<◌, List, [], ◌∷◌, ◌++◌, map, length, set, Some}
+use Rattle.std.proofs.Common.{⊎_elim, sym, subst, arith, length-set, get_or-set_same, get_or-set_other}
+use Rattle.std.specs.Prelude.{Option, All}
 use Rattle.std.proofs.lemmas.List.Elements.{All-pop}
 use Rattle.std.proofs.lemmas.Bool.Decides.{nat_tests}
 use Rattle.std.proofs.lemmas.List.{map-append}
-use mathlib.Core.Logic.{dite}
-use native.Mathlib.Decide.{ℕ_discrete}
 use Rattle.scr_workers.specs.Answered.{HasAnswer}
 use Rattle.scr_workers.specs.Gather.{HasSlotAnswer, only, times}
 use Rattle.scr_workers.specs.Work.{slot_of}
@@ -26,16 +24,12 @@ module _ {T : Type 0} (IsAnswer : ℕ → T → Type 0) where
   -- the place of a slot has the answer that was put there
   pub placed_set-here : (out : List (Option T)) (slot : ℕ) (a : T) → slot < length out → IsAnswer slot a
       → HasAnswer IsAnswer (set out slot (Some a)) slot
-  placed_set-here out slot a within is =
-      subst (λ o. IsSomeAnd o (IsAnswer slot)) (sym (get_or-set_same out slot (Some a) None within)) is
+  placed_set-here out slot a within is = grind (arith, get_or-set_same)
 
   -- a place with an answer keeps one
   pub kept_set : (out : List (Option T)) (slot : ℕ) (a : T) → slot < length out → IsAnswer slot a
       → (k : ℕ) → HasAnswer IsAnswer out k → HasAnswer IsAnswer (set out slot (Some a)) k
-  kept_set out slot a within is k before =
-      dite (ℕ_discrete k slot)
-      (λ e. subst (HasAnswer IsAnswer (set out slot (Some a))) (sym e) (placed_set-here out slot a within is))
-      (λ n. subst (λ o. IsSomeAnd o (IsAnswer k)) (sym (get_or-set_other out slot k (Some a) None n)) before)
+  kept_set out slot a within is k before = grind (arith, placed_set-here, get_or-set_other)
 
   -- a slot that stood in a list, or whose place had an answer, does so after its last entry is put in its place
   pub placed_set : (before after : List (ℕ × T)) (out : List (Option T)) (slot : ℕ) (a : T)
@@ -43,17 +37,7 @@ module _ {T : Type 0} (IsAnswer : ℕ → T → Type 0) where
       → (k : ℕ) → (0 < times k (map slot_of before)) ⊎ HasAnswer IsAnswer out k
       → (0 < times k (map slot_of after)) ⊎ HasAnswer IsAnswer (set out slot (Some a)) k
   placed_set before after out slot a within_list within is k known =
-      dite (ℕ_discrete k slot)
-      (λ e. inr (subst (HasAnswer IsAnswer (set out slot (Some a))) (sym e) (placed_set-here out slot a within is)))
-      (λ n. ⊎_elim
-      (λ (some : 0 < times k (map slot_of before)).
-      let e = ap (λ es. times k (map slot_of es)) within_list in
-      let cut = ap (times k) (map-append slot_of after ((slot, a) ∷ [])) in
-      let two = weigh-append (only k) (map slot_of after) (slot ∷ []) in
-      let other = only-other k slot (λ j. n (sym j)) in
-      inl (omega arith))
-      (λ (there : HasAnswer IsAnswer out k). inr (kept_set out slot a within is k there))
-      known)
+      grind (arith, placed_set-here, ⊎_elim, map-append, weigh-append, only-other, kept_set)
 
   -- What has come of placing a list's answers: those that are left are of slots, places that had an answer have one,
   -- and so has the place of each slot of the list that isn't left.

@@ -35,10 +35,7 @@ at-other s a seat other = grind (arith, nat_tests)
 
 weigh_below-past : (s a w : ℕ) → w ≤ s → weigh_below (at s a) w ≡ 0
 weigh_below-past s a zero past = refl
-weigh_below-past s a (suc w) past =
-    let r = weigh_below-past s a w (omega arith) in
-    let e = at-other s a w (λ (is : s ≡ w). absurd (omega arith)) in
-    omega arith
+weigh_below-past s a (suc w) past = grind (arith, at-other, weigh_below-past s a w (omega arith))
 
 weigh_below-at : (s a w : ℕ) → s < w → weigh_below (at s a) w ≡ a
 weigh_below-at s a zero below = absurd (omega arith)
@@ -72,10 +69,8 @@ together-cons w slot k s ss below =
 passed : (w slot k : ℕ) (ss : List ℕ) → All (λ s. s < w) ss → slot < k → together w slot k ss ≡ 0
 passed w slot k [] seats past = weigh_below-none w
 passed w slot k (s ∷ ss) seats past =
-    let cons = together-cons w slot k s ss (All-head (λ s. s < w) s ss seats) in
-    let r = passed w slot (suc k) ss (All-tail (λ s. s < w) s ss seats) (omega arith) in
-    let e = only-other slot k (λ (is : k ≡ slot). absurd (omega arith)) in
-    omega arith
+    let more = passed w slot (suc k) ss (All-tail (λ s. s < w) s ss seats) (omega arith) in
+    grind (arith, together-cons, All-head, All-tail, only-other)
 
 comes : (w slot k : ℕ) (ss : List ℕ) → All (λ s. s < w) ss → k ≤ slot → slot < k + length ss → together w slot k ss ≡ 1
 comes w slot k [] seats from to = absurd (omega arith)
@@ -90,16 +85,13 @@ comes w slot k (s ∷ ss) seats from to =
 
 within-cons : (k n : ℕ) (rest : List ℕ) → All (λ x. x < suc k + n) rest → (b : Bool)
     → All (λ x. x < k + suc n) (cond b (k ∷ rest) rest)
-within-cons k n rest below true =
-    let others = All-weaker (λ x. x < suc k + n) (λ x. x < k + suc n) (λ x h. omega arith) rest below in
-    All-cons (λ x. x < k + suc n) k rest (omega arith) others
+within-cons k n rest below true = grind (arith, All-weaker, All-cons)
 within-cons k n rest below false = All-weaker (λ x. x < suc k + n) (λ x. x < k + suc n) (λ x h. omega arith) rest below
 
 -- a claim is a place of the schedule
 within : (k seat : ℕ) (ss : List ℕ) → All (λ x. x < k + length ss) (claims_from k seat ss)
 within k seat [] = All-nil (λ x. x < k + 0)
-within k seat (s ∷ ss) =
-    within-cons k (length ss) (claims_from (suc k) seat ss) (within (suc k) seat ss) (nat_eq s seat)
+within k seat (s ∷ ss) = grind (arith, within-cons, within (suc k) seat ss)
 
 pub each_once : EachIsClaimedOnce
 each_once w n schedule is ended slot below =

@@ -1,8 +1,6 @@
-use Rattle.std.proofs.Common.{◌≡◌, ℕ, ◌<◌, length, slice_index_or, List, Some, sym, ap, ◌∙◌, subst, arith}
+use Rattle.std.proofs.Common.{◌≡◌, ℕ, ◌<◌, length, slice_index_or, List, sym, ap, ◌∙◌, subst, arith}
 use Rattle.scr_workers.specs.declared.lane.Lane.{Lane}
-use Rattle.std.specs.Prelude.{Option, IsSomeAnd, []}
 use Rattle.scr_workers.specs.Boards.{weight_in}
-use Rattle.scr_workers.specs.Seats.{Placed}
 use Rattle.scr_workers.specs.Gather.{IsSeated, without_seat, list_in}
 use Rattle.scr_workers.specs.Rule.{weigh}
 use Rattle.std.proofs.lemmas.List.Sums.{sum_by_more}
@@ -13,24 +11,7 @@ use Rattle.scr_workers.proofs.Steps.{sum_by-first}
 use Rattle.scr_workers.proofs.claims.join_seats.Goals as goal
 
 pub loop-k-init : goal.loop-k-init
-loop-k-init g c =
-    let A : Type 0 = Lane g.row.T.Denot in
-    let d : A = c.index-lanes-0.result in
-    let xs : List A = c.args.lanes.now in
-    let x : A = slice_index_or xs 0 d in
-    let is : x.seat ≡ Some c.in-Some.seat = sym c.take.ensures.value ∙ c.in-Some.is in
-    let word = c.args.table.now.table.shared.table_id in
-    let Seated : Option Placed → Type 0 = λ o. IsSomeAnd o (λ (s : Placed). (s.table_id ≡ word) × (s.me.1 ≡ [])) in
-    let seated = subst Seated is (c.requires.seated 0 d c.requires.some) in
-    let some = c.requires.some in record {
-      of_table = seated.0;
-      no_slot = seated.1;
-      weight = ap weight_in (sym is) ∙ sym (sum_by-first (λ (l : A). weight_in l.seat) xs d some);
-      list = λ h. let first = sym (sum_by-first (λ (l : A). weigh h (list_in l.seat)) xs d some) in
-          ap (λ o. weigh h (list_in o)) (sym is) ∙ first;
-      lanes = step-first_done without_seat 0 xs xs _ d (start-first_done without_seat xs) some
-          (λ i. record { seat = c.take.ensures.after i; own = x.own });
-    }
+loop-k-init g c = grind (arith, sum_by-first, step-first_done, start-first_done)
 
 pub join_seat_of-requires-clause-seated : goal.join_seat_of-requires-clause-seated
 join_seat_of-requires-clause-seated g c κs within =
@@ -78,14 +59,4 @@ loop-k-preserved g c =
     }
 
 pub returns-clause-lanes : goal.returns-clause-lanes
-returns-clause-lanes g c =
-    let A : Type 0 = Lane g.row.T.Denot in
-    let inv = c.loop-k.invariant in
-    let xs : List A = c.args.lanes.now in
-    let same = ap length inv.lanes in
-    let len = length-first_done (without_seat {T = g.row.T.Denot}) c.loop-k.k xs in
-    let auto = c.loop-k.auto.lanes in
-    let test = c.loop-k-test.false in
-    let some = c.requires.some in
-    let near = c.loop-k.auto.k-end in
-    inv.lanes ∙ first_done-all without_seat c.loop-k.k xs (omega arith)
+returns-clause-lanes g c = grind (arith, length-first_done, first_done-all)

@@ -1,22 +1,16 @@
-use Rattle.std.proofs.Common.{◌≡◌, ◌+◌, ℕ, List, length, slice_index_or, map, set, drop, Some, refl, sym, ◌∙◌, ap, subst, arith}
+use Rattle.std.proofs.Common.{◌+◌, ℕ, List, length, slice_index_or, map, drop, Some, refl, sym, ◌∙◌, ap, subst, arith}
 use Rattle.std.proofs.Common.{vec_capacity, get_or-set_same, get_or-set_other}
-use native.Mathlib.Decide.{ℕ_discrete}
-use mathlib.Core.Logic.{dite}
 use Rattle.std.proofs.lemmas.List.{get_or-map}
 use Rattle.scr_workers.proofs.Steps.{get_or-any}
 use Rattle.std.proofs.lemmas.List.Elements.{All-drop}
 use Rattle.scr_workers.specs.declared.lane.Lane.{Lane}
 use Rattle.scr_workers.specs.Boards.{weight_in}
-use Rattle.scr_workers.specs.Gather.{IsSpent, HoldAnswers, times, once_below, without_seat}
+use Rattle.scr_workers.specs.Gather.{IsSpent, HoldAnswers, times, once_below}
 use Rattle.scr_workers.proofs.Ends.{sum_by-agree, list_times, hold, all_spent, set-front, some_there}
 use Rattle.scr_workers.proofs.claims.run_lanes.Goals as goal
 
 pub look-requires-clause-whole : goal.look-requires-clause-whole
-look-requires-clause-whole g c =
-    let ran = c.run_workers in
-    let weight_of : Lane g.row.J-Out.Denot → ℕ = λ l. weight_in l.seat in
-    let same = sum_by-agree weight_of c.args.lanes.now ran.new.lanes ran.auto.lanes ran.ensures.weights in
-    c.join_seats-seat.ensures.weight ∙ (same ∙ c.requires.weights)
+look-requires-clause-whole g c = grind (arith, sum_by-agree)
 
 pub gather-requires-clause-lanes : goal.gather-requires-clause-lanes
 gather-requires-clause-lanes g c κs within =
@@ -66,23 +60,4 @@ returns-clause-lanes g c =
 
 pub returns-clause-room : goal.returns-clause-room
 returns-clause-room g c i d below =
-    let A : Type 0 = Lane g.row.J-Out.Denot in
-    let room : A → ℕ = λ l. vec_capacity l.own in
-    let ran = c.run_workers.new.lanes in
-    let joined = c.join_seats-seat.new.lanes in
-    let gathered = c.gather.new.lanes in
-    let ran_size = c.run_workers.auto.lanes in
-    let joined_size = c.join_seats-seat.auto.lanes in
-    let gathered_size = c.gather.auto.lanes in
-    let first : A = record { seat = Some c.look.new.seat; own = (slice_index_or gathered 0 c.index-lanes-0.result).own } in
-    let mapped = get_or-map without_seat ran i d d (omega arith) in
-    let unseated : room (slice_index_or joined i d) ≡ room (slice_index_or ran i d) =
-    ap (λ lanes. room (slice_index_or lanes i d)) c.join_seats-seat.ensures.lanes ∙ ap room mapped in
-    let kept : room (slice_index_or gathered i d) ≡ room (slice_index_or c.args.lanes.now i d) =
-    c.gather.ensures.room i d (omega arith) ∙ (unseated ∙ c.run_workers.ensures.room i d below) in
-    dite (ℕ_discrete i 0)
-    (λ is. let here = ap room (get_or-set_same gathered 0 first d (omega arith)) in
-    let same = ap room (get_or-any gathered 0 c.index-lanes-0.result d (omega arith)) in
-    subst (λ j. room (slice_index_or (set gathered 0 first) j d) ≡ room (slice_index_or c.args.lanes.now i d)) (sym is)
-    (here ∙ (same ∙ (ap (λ j. room (slice_index_or gathered j d)) (sym is) ∙ kept))))
-    (λ other. ap room (get_or-set_other gathered 0 i first d other) ∙ kept)
+    grind (arith, vec_capacity, get_or-map, get_or-set_same, get_or-any, get_or-set_other)
