@@ -1,5 +1,5 @@
 -- What the ids of the events are.
-use Rattle.std.proofs.Common.{◌≡◌, ℕ, ◌<◌, ◌≤◌, Bool, true, false, cond, List, [], ◌∷◌, length, Option, Some, None, refl, ap, ◌∙◌, subst, get_or}
+use Rattle.std.proofs.Common.{◌≡◌, ℕ, ◌<◌, ◌≤◌, Bool, true, false, cond, List, [], ◌∷◌, length, Option, Some, None, refl, ap, ◌∙◌, subst, arith}
 use Rattle.std.specs.Prelude.{◌&&◌, not, nat_lt, nat_le, codes, All}
 use Rattle.std.specs.List.{find, list_all}
 use Rattle.std.specs.Str.{IsUtf8, bytes_eq}
@@ -7,7 +7,6 @@ use Rattle.std.proofs.lemmas.Str.{IsUtf8-from_ascii}
 use Rattle.std.proofs.lemmas.Str.Ascii.{IsAscii-from_all}
 use Rattle.std.proofs.lemmas.List.Sums.{AllPass-from_list_all}
 use Rattle.std.proofs.lemmas.Slice.Eq.{bytes_eq-Decides}
-use borrow.Author.Tests.{ltb-true, leb-true}
 use Rattle.scr_notation.specs.declared.event.Event.{Event}
 use Rattle.scr_text.specs.Lines.{has_bytes}
 use Rattle.scr_notation.specs.Event.{id_of, events, event_of, greatest_of, usual_of}
@@ -39,30 +38,11 @@ parts false b is = cc
 id-facts : (e : Event) → is_id e ≡ true → event_of (id_of e) ≡ Some e → bytes_eq (id_of e) (codes "444") ≡ false
     → IsId e
 unfolding is_id
-id-facts e test finds not_444 =
-    let last = parts _ _ test in
-    let fourth = parts _ _ last.0 in
-    let third = parts _ _ fourth.0 in
-    let first = parts _ _ third.0 in
-    let each : (k : ℕ) (d : ℕ) → k < length (id_of e) → (nat_lt 32 (get_or (id_of e) k d) ≡ true) × (nat_lt (get_or (id_of e) k d) 128 ≡ true) =
-    λ k d h. parts _ _ (AllPass-from_list_all (λ b. nat_lt 32 b && nat_lt b 128) (id_of e) first.0 k d h)
-    in
-    record {
-      plain = λ k d h. ltb-true 32 _ (each k d h).0;
-      ascii = λ k d h. ltb-true _ 128 (each k d h).1;
-      some = first.1;
-      short = leb-true (length (id_of e)) 5 third.1;
-      finds = finds;
-      not_444 = not_444;
-      range = leb-true (greatest_of e) 15 fourth.1;
-      usual = leb-true (usual_of e) (greatest_of e) last.1;
-    }
+id-facts e test finds not_444 = grind (arith, parts, AllPass-from_list_all)
 
 pub id-IsId : (e : Event) → IsId e
 unfolding is_id
-id-IsId e =
-    id-facts e (each_passes is_id refl e) (each_alike (λ x. event_of (id_of x)) Some refl e)
-    (each_alike (λ x. bytes_eq (id_of x) (codes "444")) (λ x. false) refl e)
+id-IsId e = grind (arith, id-facts, each_passes, is_id, each_alike)
 
 -- no id has a colon
 fails : (b : Bool) → not b ≡ true → b ≡ false
@@ -70,8 +50,7 @@ fails true is = cc
 fails false is = refl
 
 pub id-no_colon : (e : Event) → All (λ b. is_colon b ≡ false) (id_of e)
-id-no_colon e = λ k d h.
-    fails _ (AllPass-from_list_all (λ b. not (is_colon b)) (id_of e) (each_passes (λ x. list_all (λ b. not (is_colon b)) (id_of x)) refl e) k d h)
+id-no_colon e = grind (arith, fails, AllPass-from_list_all, each_passes)
 
 -- what a search finds passes its test
 passes-at : {X : Type 0} (p : X → Bool) (ys : List X) (x y : X) (b : Bool) → p y ≡ b →

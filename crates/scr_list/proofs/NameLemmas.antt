@@ -1,6 +1,6 @@
 -- Names of rounds, and the line that one follows.
 use Rattle.std.proofs.Common.{◌≡◌, ℕ, suc, ◌+◌, ◌-◌, ◌<◌, ◌≤◌, Bool, true, false, cond, List, [], ◌∷◌, ◌++◌, take, drop, length, get_or, reverse, Option, Some, None, refl, sym, ap, ◌∙◌, subst, arith, length-append, length-drop, length-take-le}
-use Rattle.std.specs.Prelude.{◌&&◌, nat_le, nat_lt, All, position, option_map}
+use Rattle.std.specs.Prelude.{◌&&◌, nat_lt, All, position, option_map}
 use Rattle.std.specs.List.{list_all, prefix_len, suffix_len, position_or_len}
 use Rattle.std.specs.Str.{IsUtf8}
 use Rattle.std.proofs.lemmas.List.{get_or-drop, get_or-take, get_or-reverse, length-reverse, take_all, take-append-le}
@@ -9,7 +9,7 @@ use Rattle.std.proofs.lemmas.List.Quantifiers.{position-Some}
 use Rattle.std.proofs.lemmas.List.Sums.{prefix_len_is, prefix_len_stops, suffix_len_is, position_or_len_is, AllPass-from_list_all}
 use Rattle.std.proofs.lemmas.Str.{IsUtf8-from_ascii}
 use Rattle.std.proofs.lemmas.Str.Ascii.{IsAscii-from_all}
-use borrow.Author.Tests.{leb-true, lt-ltb, le-ltb, ltb-false}
+use borrow.Author.Tests.{lt-ltb, le-ltb, ltb-false}
 use Rattle.scr_text.specs.Lines.{has_bytes, is_blank}
 use Rattle.scr_list.specs.Names.{is_colon, told_part, name_part, trimmed, is_name_byte, is_name, name_in, IsName}
 
@@ -27,18 +27,7 @@ pub record HasNameBytes (text : List ℕ) : Type 0 where
   pub high : All (λ b. b ≤ 126) text
 
 pub is_name-HasNameBytes : (text : List ℕ) → is_name text ≡ true → HasNameBytes text
-is_name-HasNameBytes text is =
-    let parts = both _ _ is in
-    let sizes = both _ _ parts.0 in
-    let each : (k : ℕ) (d : ℕ) → k < length text → (nat_le 32 (get_or text k d) ≡ true) × (nat_le (get_or text k d) 126 ≡ true) =
-    λ k d h. both _ _ (AllPass-from_list_all is_name_byte text parts.1 k d h)
-    in
-    record {
-      some = leb-true 1 (length text) sizes.0;
-      few = leb-true (length text) 40 sizes.1;
-      low = λ k d h. leb-true 32 (get_or text k d) (each k d h).0;
-      high = λ k d h. leb-true (get_or text k d) 126 (each k d h).1;
-    }
+is_name-HasNameBytes text is = grind (arith, both, AllPass-from_list_all)
 
 -- a round's name has such bytes alone, if it has one
 pub name-bytes : (name : List ℕ) → (has_bytes name ≡ true → IsName name) → list_all is_name_byte name ≡ true
@@ -47,9 +36,7 @@ name-bytes (byte ∷ name) named = (both _ _ (named refl).test).1
 
 -- such bytes are text
 pub is_name-IsUtf8 : (text : List ℕ) → is_name text ≡ true → IsUtf8 text
-is_name-IsUtf8 text is =
-    let it = is_name-HasNameBytes text is in
-    IsUtf8-from_ascii text (IsAscii-from_all text (λ k d h. let high = it.high k d h in omega arith))
+is_name-IsUtf8 text is = grind (arith, is_name-HasNameBytes, IsUtf8-from_ascii, IsAscii-from_all)
 
 -- ---- blanks at the ends
 
@@ -100,10 +87,7 @@ trimmed-ends text some =
 
 -- what has no blank at an end loses nothing there
 behind-plain : (text : List ℕ) → is_blank (get_or text (length text - 1) 0) ≡ false → without_blanks_behind text ≡ text
-behind-plain text last =
-    let n = length text in
-    let none = suffix_len_is is_blank text n 0 (omega arith) (λ k low high. absurd (omega arith)) (λ h. last) in
-    take_all (n - suffix_len is_blank text) text (omega (arith, none))
+behind-plain text last = grind (arith, suffix_len_is, take_all)
 
 before-plain : (text : List ℕ) → is_blank (get_or text 0 0) ≡ false → prefix_len is_blank text ≡ 0
 before-plain text first = prefix_len_is is_blank text 0 0 (omega arith) (λ k h. absurd (omega arith)) (λ h. first)
@@ -133,9 +117,7 @@ name_in-IsName text name is = at (is_name (trimmed text)) refl is
 -- a name behind a space is read as that name
 pub name_in-name : (name : List ℕ) → IsName name → name_in (32 ∷ name) ≡ Some name
 unfolding name_in
-name_in-name name it =
-    let same = trimmed-space name (is_name-HasNameBytes name it.test).some it.first it.last in
-    rw (same, it.test) refl
+name_in-name name it = grind (arith, trimmed-space, is_name-HasNameBytes)
 
 -- ---- the first colon
 
@@ -143,9 +125,7 @@ name_in-name name it =
 pub told_part-some : (line : List ℕ) (colon : ℕ) → position is_colon line ≡ Some colon
     → told_part true line ≡ take colon line
 unfolding told_part
-told_part-some line colon found =
-    let is = position-Some is_colon line colon 0 found in
-    ap (λ n. take n line) (position_or_len_is is_colon line colon 0 (omega (arith, is.0)) is.2 (λ h. is.1))
+told_part-some line colon found = grind (arith, position-Some, position_or_len_is)
 
 past_all : (size place : ℕ) (b : Bool) → nat_lt place size ≡ b → cond b (Some place) None ≡ None → size ≤ place
 past_all size place true is none = cc
@@ -153,9 +133,7 @@ past_all size place false is none = ltb-false place size is
 
 pub told_part-none : (line : List ℕ) → position is_colon line ≡ None → told_part true line ≡ line
 unfolding told_part
-told_part-none line none =
-    let place = position_or_len is_colon line in
-    take_all place line (past_all (length line) place (nat_lt place (length line)) refl none)
+told_part-none line none = grind (arith, take_all, past_all)
 
 pub name_part-at : (line : List ℕ) (place : Option ℕ) → position is_colon line ≡ place →
     name_part true line ≡ option_map (λ colon. drop (colon + 1) line) place
@@ -172,15 +150,11 @@ colon_place : (front back : List ℕ) → All (λ b. is_colon b ≡ false) front
     → position_or_len is_colon (front ++ 58 ∷ back) ≡ length front
 colon_place [] back plain = refl
 colon_place (b ∷ front) back plain =
-    let here = All-head (λ x. is_colon x ≡ false) b front plain in
-    let rest = colon_place front back (All-tail (λ x. is_colon x ≡ false) b front plain) in
-    rw here (omega (arith, rest))
+    grind (arith, All-head, All-tail, colon_place front back (All-tail (λ x. is_colon x ≡ false) b front plain))
 
 past_colon : (front back : List ℕ) → drop (length front + 1) (front ++ 58 ∷ back) ≡ back
 past_colon [] back = refl
-past_colon (b ∷ front) back =
-    let next : length (b ∷ front) + 1 ≡ suc (length front + 1) = omega arith in
-    ap (λ n. drop n (b ∷ (front ++ 58 ∷ back))) next ∙ past_colon front back
+past_colon (b ∷ front) back = grind (arith, past_colon front back)
 
 pub parts-colon : (front back : List ℕ) → All (λ b. is_colon b ≡ false) front →
     (told_part true (front ++ 58 ∷ back) ≡ front) × (name_part true (front ++ 58 ∷ back) ≡ Some back)

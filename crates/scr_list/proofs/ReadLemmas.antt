@@ -1,14 +1,14 @@
 -- One read after another.
-use Rattle.std.proofs.Common.{◌≡◌, ℕ, ◌+◌, ◌-◌, ◌<◌, ◌≤◌, Option, Some, None, List, ◌++◌, take, drop, length, Result, Ok, Err, refl, ap, sym, ◌∙◌, inl, inr, arith, lit≤, append_assoc, length-append, length-drop, length-take-le, subst}
+use Rattle.std.proofs.Common.{◌≡◌, ℕ, ◌+◌, ◌-◌, ◌<◌, ◌≤◌, Option, Some, None, List, ◌++◌, take, drop, length, Result, Ok, Err, refl, ap, sym, ◌∙◌, arith, lit≤, append_assoc, length-append, length-drop, length-take-le, subst}
 use Rattle.std.specs.Prelude.{IfOk, IfErr}
 use Rattle.std.proofs.lemmas.Bool.{cases_lt}
 use Rattle.std.proofs.lemmas.List.{take-append-le, take_all}
 use Rattle.std.proofs.Math.Seq.{take-append-add}
-use borrow.Rule.Slice.PartMut.{put_mid, post_of}
+use Rattle.std.proofs.lemmas.Option.{same_Some}
+use borrow.Rule.Slice.PartMut.{put_mid}
 use Rattle.arrayvec.specs.ArrayVec.{ArrayVec}
 use Rattle.scr_outside.specs.Bytes.{put_back}
 use Rattle.scr_outside.specs.Change.{Change, Gives, TellsEnd}
-use Rattle.scr_outside.specs.Faults.{Rose}
 use Rattle.scr_outside.proofs.ChangeLemmas.{read_from_to}
 use Rattle.scr_list.specs.declared.round.Round.{Round}
 use Rattle.scr_list.specs.declared.version.Version.{Version}
@@ -18,28 +18,24 @@ use Rattle.scr_list.specs.Versions.{version_of}
 use Rattle.scr_list.specs.Rounds.{rounds_of}
 use Rattle.scr_list.specs.Reading.{listed, most_read, ReadsList, ReadsTooMany, ReadsInPart, ReadsNoList}
 use Rattle.scr_list.proofs.RoundLemmas.{TellsLength, rounds_of-TellsLength, rounds_of-long}
-use Rattle.scr_list.proofs.VersionLemmas.{version_of-cases, version_of-append}
+use Rattle.scr_list.proofs.VersionLemmas.{of_version, version_of-append}
 
 -- the first bytes of a list after another
 take_past : (k n : ℕ) (xs ys zs : List ℕ) → length xs ≡ k → n ≤ length ys
     → take (k + n) (xs ++ (ys ++ zs)) ≡ xs ++ take n ys
-take_past k n xs ys zs long few =
-    rw (← long) (take-append-add xs (ys ++ zs) n ∙ ap (λ x. xs ++ x) (take-append-le n ys zs few))
+take_past k n xs ys zs long few = grind (arith, take-append-add, take-append-le)
 
 -- a buffer whose first bytes were read, and then the next n into what follows them
 pub take-put_mid : (buffer next : List ℕ) (filled size n : ℕ) → filled ≤ length buffer → n ≤ length next →
     take (filled + n) (put_mid filled size buffer next) ≡ take filled buffer ++ take n next
-take-put_mid buffer next filled size n inside few =
-    take_past filled n (take filled buffer) next (post_of filled size buffer) (length-take-le filled buffer inside) few
+take-put_mid buffer next filled size n inside few = grind (arith, take_past, length-take-le)
 
 -- ---- where reading ends
 
 -- the reading of a list ends in the first version's room or in the second's
 pub most_read-range : (bytes : List ℕ) → (4097 ≤ most_read bytes) × (most_read bytes ≤ 16385)
-most_read-range bytes = elim (version_of-cases bytes) [
-  | inl first ↦ let P : Version → Type 0 = λ v. (4097 ≤ v.most_bytes + 1) × (v.most_bytes + 1 ≤ 16385) in subst P (sym first) (lit≤ tt, lit≤ tt)
-  | inr second ↦ let P : Version → Type 0 = λ v. (4097 ≤ v.most_bytes + 1) × (v.most_bytes + 1 ≤ 16385) in subst P (sym second) (lit≤ tt, lit≤ tt)
-]
+most_read-range bytes =
+    of_version (λ v. (4097 ≤ v.most_bytes + 1) × (v.most_bytes + 1 ≤ 16385)) bytes (lit≤ tt, lit≤ tt) (lit≤ tt, lit≤ tt)
 
 -- behind as many bytes as the first version has room for, no byte changes where it ends
 pub most_read-append : (xs ys : List ℕ) → length xs ≡ 4097 → most_read (xs ++ ys) ≡ most_read xs
@@ -60,35 +56,14 @@ put_back-twice xs ys (Some left) = ap Some (sym (append_assoc xs ys left))
 
 pub in_part-few : {change : Change} (size : ℕ) → size ≤ 4097 → ReadsInPart change (λ _. size)
     → ReadsInPart change most_read
-in_part-few size small part =
-    let range = most_read-range part.bytes in
-    let few = part.few in
-    record {
-      bytes = part.bytes;
-      given = part.given;
-      few = omega (arith, range.0, few);
-      no_end = part.no_end;
-      rose = part.rose;
-      never_falls = part.never_falls;
-    }
+in_part-few size small part = grind (arith, most_read-range)
 
 -- a part behind as many bytes as the first version has room for
 pub in_part-after : {left left' left'' : Option (List ℕ)} {faults faults' faults'' ends ends' ends'' : ℕ} (xs : List ℕ) (size : ℕ) →
     length xs ≡ 4097 → 4097 + size ≤ most_read xs → Gives (read_from_to left faults ends left' faults' ends') xs → ends' ≡ ends →
     ReadsInPart (read_from_to left' faults' ends' left'' faults'' ends'') (λ _. size) → ReadsInPart (read_from_to left faults ends left'' faults'' ends'') most_read
 in_part-after {left'' = left''} {faults'' = faults''} xs size long room first no_end part =
-    let ys = part.bytes in
-    let few = part.few in
-    let sizes = length-append xs ys in
-    let most = most_read-append xs ys long in
-    record {
-      bytes = xs ++ ys;
-      given = first.given ∙ ap (put_back xs) part.given ∙ put_back-twice xs ys left'';
-      few = omega (arith, sizes, most, few);
-      no_end = part.no_end ∙ no_end;
-      rose = subst (λ f. Rose f faults'') first.no_fault part.rose;
-      never_falls = subst (λ f. f ≤ faults'') first.no_fault part.never_falls;
-    }
+    grind (arith, length-append, most_read-append, put_back-twice)
 
 -- What was read into a buffer behind as many bytes as the first version has room for: they are followed by what was
 -- read, and reading ends where they say.
@@ -133,57 +108,21 @@ same_version list bytes left whole long = ap version_of whole ∙ version_of-app
 pub too_many-refused : (change : Change) (limit : ℕ) (list : List ℕ) → ReadsTooMany change limit → change.bytes_before ≡ Some list →
     rounds_of list ≡ Err (TooLong limit)
 too_many-refused change limit list refused input =
-    let bytes = refused.bytes in
-    let parts = had list bytes change.bytes_after (sym input ∙ refused.gives.given) in
-    let range = most_read-range bytes in
-    let many = refused.many in
-    let most = refused.most in
-    let version = same_version list bytes parts.0 parts.2 (omega (arith, range.0, many, most)) in
-    let size = ap length parts.2 ∙ length-append bytes parts.0 in
-    rounds_of-long list (version_of bytes) version (omega (arith, size, many, most)) ∙ ap (λ n. Err (TooLong n)) (sym most)
+    grind (arith, had, most_read-range, same_version, length-append, rounds_of-long)
 
 -- as many were read as its version says
 pub too_many-read : (change : Change) (limit : ℕ) (before after : List ℕ) (version : Version) → ReadsTooMany change limit →
     change.bytes_before ≡ Some before → change.bytes_after ≡ Some after → version_of before ≡ version →
     (limit ≡ version.most_bytes) × (length before ≡ length after + (version.most_bytes + 1))
 too_many-read change limit before after version refused input left is =
-    let bytes = refused.bytes in
-    let parts = had before bytes change.bytes_after (sym input ∙ refused.gives.given) in
-    let same : parts.0 ≡ after = some_is (sym parts.1 ∙ left) in
-    let range = most_read-range bytes in
-    let many = refused.many in
-    let most = refused.most in
-    let version_is = same_version before bytes parts.0 parts.2 (omega (arith, range.0, many, most)) in
-    let limit_is : limit ≡ version.most_bytes = most ∙ ap (λ (v : Version). v.most_bytes) (sym version_is ∙ is) in
-    let size = ap length parts.2 ∙ length-append bytes parts.0 in
-    let rest = ap length same in
-    (limit_is, omega (arith, size, many, limit_is, rest))
-  where
-    some_is : {x y : List ℕ} → Some x ≡ Some y → x ≡ y
-    some_is e = cc
+    grind (arith, had, same_Some, most_read-range, same_version, length-append)
 
 -- no more were read than its version says
 pub in_part-read : (change : Change) (before after : List ℕ) (version : Version) → ReadsInPart change most_read →
     change.bytes_before ≡ Some before → change.bytes_after ≡ Some after → version_of before ≡ version →
     length before ≤ length after + (version.most_bytes + 1)
 in_part-read change before after version part input left is =
-    let bytes = part.bytes in
-    let parts = had before bytes change.bytes_after (sym input ∙ part.given) in
-    let same : parts.0 ≡ after = some_is (sym parts.1 ∙ left) in
-    let size = ap length parts.2 ∙ length-append bytes parts.0 in
-    let rest = ap length same in
-    let few = part.few in
-    let room : most_read before ≡ version.most_bytes + 1 = ap (λ (v : Version). v.most_bytes + 1) is in
-    let range = most_read-range before in
-    elim (cases_lt (length bytes) 11) [
-      | inl short ↦ omega (arith, size, rest, room, range.0, short)
-      | inr long ↦
-          let version_is : most_read before ≡ most_read bytes = ap (λ (v : Version). v.most_bytes + 1) (same_version before bytes parts.0 parts.2 long) in
-          omega (arith, size, rest, few, room, version_is)
-    ]
-  where
-    some_is : {x y : List ℕ} → Some x ≡ Some y → x ≡ y
-    some_is e = cc
+    grind (arith, had, same_Some, length-append, most_read-range, cases_lt, same_version)
 
 -- ---- the answer
 
@@ -191,22 +130,9 @@ answer-by : (change : Change) (bytes : List ℕ) (r : Result (ArrayVec Round) Li
     length bytes ≤ most_read bytes → Gives change bytes → (length bytes < most_read bytes → TellsEnd change) → (length bytes ≡ most_read bytes → change.ends_after ≡ change.ends_before) →
     listed r ≡ rounds_of bytes → TellsLength (version_of bytes).most_bytes bytes (listed r) →
     IfOk r (λ rounds. ReadsList change (Ok rounds.items)) × IfErr r (λ fault. ReadsNoList change fault)
-answer-by change bytes (Ok rounds) within taken end no_end answer tells =
-    (record { bytes = bytes; gives = taken; end = end (omega (arith, tells)); says = sym answer }, tt)
-answer-by change bytes (Err (TooLong limit)) within taken end no_end answer tells =
-    let most = tells.0 in
-    let long = tells.1 in (
-      tt,
-      record {
-        bytes = bytes;
-        gives = taken;
-        no_end = no_end (omega (arith, within, long));
-        most = most;
-        many = omega (arith, within, long, most);
-      },
-    )
-answer-by change bytes (Err (Line number cause)) within taken end no_end answer tells =
-    (tt, record { bytes = bytes; gives = taken; end = end (omega (arith, tells)); says = sym answer })
+answer-by change bytes (Ok rounds) within taken end no_end answer tells = grind arith
+answer-by change bytes (Err (TooLong limit)) within taken end no_end answer tells = grind arith
+answer-by change bytes (Err (Line number cause)) within taken end no_end answer tells = grind arith
 answer-by change bytes (Err Read) within taken end no_end answer tells = absurd tells
 
 pub read-answer : (change : Change) (bytes : List ℕ) (n : ℕ) (r : Result (ArrayVec Round) ListFault) → length bytes ≡ n →

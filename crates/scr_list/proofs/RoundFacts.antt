@@ -1,5 +1,5 @@
 -- What holds of each round that a list names.
-use Rattle.std.proofs.Common.{◌≡◌, ℕ, ◌+◌, ◌^◌, ◌<◌, ◌≤◌, Bool, true, false, cond, List, [], ◌∷◌, drop, length, Option, Some, None, Result, Ok, Err, refl, sym, ap, ◌∙◌, subst, arith, inl, inr, lit≤}
+use Rattle.std.proofs.Common.{◌≡◌, ℕ, ◌+◌, ◌^◌, ◌<◌, ◌≤◌, Bool, true, false, cond, List, [], ◌∷◌, drop, length, Option, Some, None, Result, Ok, Err, refl, sym, ◌∙◌, subst, arith, inl, inr, lit≤}
 use Rattle.std.specs.Prelude.{nat_lt, nat_le, ◌&&◌, ◌⊎◌, All, codes, is_none, ok_or, option_and_then, IfOk, IfErr}
 use Rattle.std.specs.Fmt.{decimal}
 use Rattle.std.specs.Str.{bytes_eq}
@@ -26,8 +26,8 @@ use Rattle.scr_list.specs.RoundLists.{IsRounds}
 use Rattle.scr_list.specs.Reading.{listed}
 use Rattle.scr_list.proofs.EventLemmas.{id-IsId}
 use Rattle.scr_list.proofs.NameLemmas.{name_in-IsName}
-use Rattle.scr_list.proofs.RoundLemmas.{TellsLength, rounds_of-TellsLength, then_rounds, with_named}
-use Rattle.scr_list.proofs.VersionLemmas.{version_of-cases}
+use Rattle.scr_list.proofs.RoundLemmas.{rounds_of-TellsLength, then_rounds, with_named}
+use Rattle.scr_list.proofs.VersionLemmas.{of_version}
 
 -- a number between two others
 number_between-range : (least greatest : ℕ) (text : List ℕ) (n : ℕ) → number_between least greatest text ≡ Some n →
@@ -135,12 +135,11 @@ pub round_of_words-IsPlaced : (most before : ℕ) (name : Option (List ℕ)) (wo
     round_of_words most before name words ≡ Ok (Some round) → IsPlaced most before round
 unfolding round_of_words
 round_of_words-IsPlaced most before name [] round is = absurd (wordless-none (is_none name) round is)
-round_of_words-IsPlaced most before name (event ∷ []) round is = cc
 round_of_words-IsPlaced most before name (event ∷ groups ∷ []) round is =
     placed-is most before (named_round event groups None name) round (named-IsRound event groups None name) is
 round_of_words-IsPlaced most before name (event ∷ groups ∷ least ∷ []) round is =
     placed-is most before (named_round event groups (Some least) name) round (named-IsRound event groups (Some least) name) is
-round_of_words-IsPlaced most before name (event ∷ groups ∷ least ∷ more ∷ others) round is = cc
+round_of_words-IsPlaced most before name words round is = cc
 
 pub round_of_line-IsPlaced : (version : Version) (before : ℕ) (line : List ℕ) (round : Round) →
     round_of_line version before line ≡ Ok (Some round) → IsPlaced version.most_rounds before round
@@ -192,16 +191,10 @@ rounds_of_lines-AreLeft version before number (line ∷ lines) =
 
 -- no version has room for more than the second
 pub most_rounds-le : (bytes : List ℕ) → (version_of bytes).most_rounds ≤ 256
-most_rounds-le bytes = elim (version_of-cases bytes) [
-  | inl first ↦ subst (λ (v : Version). v.most_rounds ≤ 256) (sym first) (lit≤ tt)
-  | inr second ↦ subst (λ (v : Version). v.most_rounds ≤ 256) (sym second) (lit≤ tt)
-]
+most_rounds-le bytes = of_version (λ v. v.most_rounds ≤ 256) bytes (lit≤ tt) (lit≤ tt)
 
 pub most_bytes-le : (bytes : List ℕ) → (version_of bytes).most_bytes ≤ 16384
-most_bytes-le bytes = elim (version_of-cases bytes) [
-  | inl first ↦ subst (λ (v : Version). v.most_bytes ≤ 16384) (sym first) (lit≤ tt)
-  | inr second ↦ subst (λ (v : Version). v.most_bytes ≤ 16384) (sym second) (lit≤ tt)
-]
+most_bytes-le bytes = of_version (λ v. v.most_bytes ≤ 16384) bytes (lit≤ tt) (lit≤ tt)
 
 pub rounds_of-IsRounds : (bytes : List ℕ) (rounds : List Round) → rounds_of bytes ≡ Ok rounds → IsRounds rounds
 unfolding rounds_of
@@ -232,5 +225,4 @@ answer-IsRounds bytes (Err fault) is = tt
 pub answer-not_Read : (bytes : List ℕ) (r : Result (ArrayVec Round) ListFault) → listed r ≡ rounds_of bytes
     → IfErr r (λ fault. fault ≡ Read → ⊥)
 answer-not_Read bytes (Ok rounds) is = tt
-answer-not_Read bytes (Err fault) is = λ read.
-    subst (TellsLength (version_of bytes).most_bytes bytes) (sym is ∙ ap Err read) (rounds_of-TellsLength bytes)
+answer-not_Read bytes (Err fault) is = grind (arith, rounds_of-TellsLength)

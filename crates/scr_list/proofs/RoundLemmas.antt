@@ -2,7 +2,7 @@
 use Rattle.std.proofs.Common.{◌≡◌, ℕ, ◌+◌, ◌<◌, ◌≤◌, Bool, true, false, cond, List, [], ◌∷◌, ◌++◌, drop, length, Option, Some, None, Result, Ok, Err, refl, sym, ap, ◌∙◌, append_assoc, append-nil, length-append, Bor, arith}
 use Rattle.std.specs.Prelude.{slice_get, nat_lt, option_copied, option_to_list, is_none, if◌then◌else◌, IfSome}
 use Rattle.std.specs.Result.{result_map_both}
-use borrow.Author.Tests.{lt-ltb, le-ltb, ltb-true, ltb-false}
+use borrow.Author.Tests.{ltb-true, ltb-false}
 use Rattle.scr_text.specs.Lines.{lines_of}
 use Rattle.scr_text.specs.Parts.{more_lines}
 use Rattle.scr_text.specs.Steps.{and_then}
@@ -77,21 +77,13 @@ pub read_on-none : (version : Version) (done : List Round) (number : ℕ) (line 
     round_of_line version (length done) line ≡ Ok None →
     read_on version done number (line ∷ lines) ≡ read_on version done (number + 1) lines
 unfolding rounds_of_lines
-read_on-none version done number line lines is =
-    let same : length done + 0 ≡ length done = omega arith in
-    rw is
-    (after_rounds-with_named done [] (rounds_of_lines version (length done + 0) (number + 1) lines)
-    ∙ ap (λ r. after_rounds r (rounds_of_lines version (length done + 0) (number + 1) lines)) (append-nil done)
-    ∙ ap (λ n. after_rounds done (rounds_of_lines version n (number + 1) lines)) same)
+read_on-none version done number line lines is = grind (arith, after_rounds-with_named, append-nil)
 
 pub read_on-round : (version : Version) (done : List Round) (number : ℕ) (line : List ℕ) (lines : List (List ℕ)) (round : Round) →
     round_of_line version (length done) line ≡ Ok (Some round) →
     read_on version done number (line ∷ lines) ≡ read_on version (done ++ round ∷ []) (number + 1) lines
 unfolding rounds_of_lines
-read_on-round version done number line lines round is =
-    rw is
-    (after_rounds-with_named done (round ∷ []) (rounds_of_lines version (length done + 1) (number + 1) lines)
-    ∙ ap (λ n. after_rounds (done ++ round ∷ []) (rounds_of_lines version n (number + 1) lines)) (sym (length-append done (round ∷ []))))
+read_on-round version done number line lines round is = grind (arith, after_rounds-with_named, length-append)
 
 pub read_on-fault : (version : Version) (done : List Round) (number : ℕ) (line : List ℕ) (lines : List (List ℕ)) (cause : ListCause) →
     round_of_line version (length done) line ≡ Err cause →
@@ -109,16 +101,12 @@ read_on-end version done number = ap Ok (append-nil done)
 pub rounds_of-short : (bytes : List ℕ) (version : Version) → version_of bytes ≡ version → length bytes ≤ version.most_bytes →
     rounds_of bytes ≡ cond version.has_version_line (rounds_of_lines version 0 2 (drop 1 (lines_of bytes))) (rounds_of_lines version 0 1 (lines_of bytes))
 unfolding rounds_of
-rounds_of-short bytes version is short =
-    let fits : nat_lt version.most_bytes (length bytes) ≡ false = le-ltb version.most_bytes (length bytes) short in
-    rw (is, fits) refl
+rounds_of-short bytes version is short = grind arith
 
 pub rounds_of-long : (bytes : List ℕ) (version : Version) → version_of bytes ≡ version → version.most_bytes < length bytes →
     rounds_of bytes ≡ Err (TooLong version.most_bytes)
 unfolding rounds_of
-rounds_of-long bytes version is long =
-    let more : nat_lt version.most_bytes (length bytes) ≡ true = lt-ltb version.most_bytes (length bytes) long in
-    rw (is, more) refl
+rounds_of-long bytes version is long = grind arith
 
 -- of a list whose first line tells its version, the others name rounds
 pub rounds_of-told : (bytes : List ℕ) (version : Version) (line : List ℕ) (rest : List (List ℕ)) → version_of bytes ≡ version → length bytes ≤ version.most_bytes →
@@ -202,14 +190,12 @@ left-few (Some rest) size most shorter short = omega arith
 pub at_line : (version : Version) (answer : Result (List Round) ListFault) (done : List Round) (number : ℕ) (rest : Option (Bor (List ℕ))) (text : Bor (List ℕ)) (lines : List (List ℕ)) →
     answer ≡ read_on version done number (more_lines (option_copied rest)) → rest ≡ Some text → lines_of text.now ≡ lines →
     answer ≡ read_on version done number lines
-at_line version answer done number rest text lines so_far is cut =
-    so_far ∙ ap (λ r. read_on version done number (more_lines (option_copied r))) is ∙ ap (read_on version done number) cut
+at_line version answer done number rest text lines so_far is cut = grind arith
 
 -- no line is left
 pub at_end : (version : Version) (answer : Result (List Round) ListFault) (done : List Round) (number : ℕ) (rest : Option (Bor (List ℕ))) →
     answer ≡ read_on version done number (more_lines (option_copied rest)) → rest ≡ None → answer ≡ Ok done
-at_end version answer done number rest so_far is =
-    so_far ∙ ap (λ r. read_on version done number (more_lines (option_copied r))) is ∙ read_on-end version done number
+at_end version answer done number rest so_far is = grind (arith, read_on-end)
 
 -- what a line names, with the number of rounds that stand before it
 pub named_at : (version : Version) (done : List Round) (size : ℕ) (line : List ℕ) (r : Result (Option Round) ListCause) (o : Result (Option Round) ListCause) →

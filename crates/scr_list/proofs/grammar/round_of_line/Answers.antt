@@ -1,36 +1,17 @@
-use Rattle.std.proofs.Common.{refl}
+use Rattle.std.proofs.Common.{refl, arith}
 use Rattle.std.specs.Prelude.{option_copied}
 use Rattle.std.proofs.lemmas.Result.{err_from_is_err_and}
 use Rattle.scr_list.proofs.RoundLemmas.{round_of_words-by, round_of_words-named}
 use Rattle.scr_list.proofs.grammar.round_of_line.Goals as goal
 
 pub returns-in_default : goal.returns-in_default
-returns-in_default c =
-    rw (← c.parted.ensures.told, ← c.parted.ensures.name, round_of_words-by, ← c.word_at.ensures, c.in_default.is) c.wordless.ensures
+returns-in_default c = grind (arith, round_of_words-by)
 
 pub returns-in_default-word_at : goal.returns-in_default-word_at
-returns-in_default-word_at c =
-    rw (
-      ← c.parted.ensures.told,
-      round_of_words-by,
-      ← c.word_at.ensures,
-      ← c.word_at-2.ensures,
-      c.in-Some.is,
-      c.in_default-word_at.is,
-    ) refl
+returns-in_default-word_at c = grind (arith, round_of_words-by)
 
 pub returns-in-Some-word_at-2 : goal.returns-in-Some-word_at-2
-returns-in-Some-word_at-2 c =
-    rw (
-      ← c.parted.ensures.told,
-      round_of_words-by,
-      ← c.word_at.ensures,
-      ← c.word_at-2.ensures,
-      ← c.word_at-3.ensures,
-      c.in-Some.is,
-      c.in-Some-word_at.is,
-      c.in-Some-word_at-2.is,
-    ) refl
+returns-in-Some-word_at-2 c = grind (arith, round_of_words-by)
 
 pub returns-in_err-round : goal.returns-in_err-round
 returns-in_err-round c =

@@ -1,32 +1,24 @@
-use Rattle.std.proofs.Common.{◌≤◌, length, sym, ◌∙◌, arith, subst}
+use Rattle.std.proofs.Common.{sym, ◌∙◌, arith}
 use Rattle.std.specs.Prelude.{option_copied}
 use Rattle.scr_text.specs.Parts.{more_lines}
-use Rattle.scr_list.specs.declared.version.Version.{Version}
 use Rattle.scr_list.proofs.RoundFacts.{most_rounds-le, most_bytes-le, answer-IsRounds, answer-not_Read}
 use Rattle.scr_list.proofs.RoundLemmas.{rounds_of-long, rounds_of-told, rounds_of-untold, left-few}
 use Rattle.scr_list.proofs.grammar.rounds_of.Goals as goal
 
 pub returns-then-bytes-version-clause-answer : goal.returns-then-bytes-version-clause-answer
-returns-then-bytes-version-clause-answer c =
-    sym (rounds_of-long c.args.bytes.now c.version_of-version.result (sym c.version_of-version.ensures) (omega arith))
+returns-then-bytes-version-clause-answer c = grind (arith, rounds_of-long)
 
 pub rounds_of_lines-requires-clause-room : goal.rounds_of_lines-requires-clause-room
-rounds_of_lines-requires-clause-room c =
-    subst (λ (v : Version). v.most_rounds ≤ 256) (sym c.version_of-version.ensures) (most_rounds-le c.args.bytes.now)
+rounds_of_lines-requires-clause-room c = grind (arith, most_rounds-le)
 
 pub rounds_of_lines-requires-clause-short : goal.rounds_of_lines-requires-clause-short
-rounds_of_lines-requires-clause-short c =
-    let most = subst (λ (v : Version). v.most_bytes ≤ 16384) (sym c.version_of-version.ensures) (most_bytes-le c.args.bytes.now) in
-    left-few c.split_line.result.1 (length c.args.bytes.now) 16384 c.split_line.ensures.shorter (omega (arith, most))
+rounds_of_lines-requires-clause-short c = grind (arith, most_bytes-le, left-few)
 
 pub rounds_of_lines-requires-else-version-clause-room : goal.rounds_of_lines-requires-else-version-clause-room
-rounds_of_lines-requires-else-version-clause-room c =
-    subst (λ (v : Version). v.most_rounds ≤ 256) (sym c.version_of-version.ensures) (most_rounds-le c.args.bytes.now)
+rounds_of_lines-requires-else-version-clause-room c = grind (arith, most_rounds-le)
 
 pub rounds_of_lines-requires-else-version-clause-short : goal.rounds_of_lines-requires-else-version-clause-short
-rounds_of_lines-requires-else-version-clause-short c =
-    let most = subst (λ (v : Version). v.most_bytes ≤ 16384) (sym c.version_of-version.ensures) (most_bytes-le c.args.bytes.now) in
-    omega (arith, most)
+rounds_of_lines-requires-else-version-clause-short c = grind (arith, most_bytes-le)
 
 pub returns-then-version : goal.returns-then-version
 returns-then-version c =

@@ -10,8 +10,7 @@ pub returns-then-not-takes_names-clause-name : goal.returns-then-not-takes_names
 returns-then-not-takes_names-clause-name c = rw c.if-not-takes_names.true (sym (parts-whole c.args.line.now).1)
 
 pub returns-in-Some-clause-told : goal.returns-in-Some-clause-told
-returns-in-Some-clause-told c =
-    rw c.if-not-takes_names.false (sym (told_part-some c.args.line.now c.in-Some.colon (sym c.first_colon.ensures.place ∙ c.in-Some.is)))
+returns-in-Some-clause-told c = grind (arith, told_part-some)
 
 pub returns-in-Some-clause-name : goal.returns-in-Some-clause-name
 returns-in-Some-clause-name c =
@@ -21,8 +20,7 @@ returns-in-Some-clause-name c =
     ∙ sym (name_part-at line (Some c.in-Some.colon) (sym c.first_colon.ensures.place ∙ c.in-Some.is)))
 
 pub returns-in-None-clause-told : goal.returns-in-None-clause-told
-returns-in-None-clause-told c =
-    rw c.if-not-takes_names.false (sym (told_part-none c.args.line.now (sym c.first_colon.ensures.place ∙ c.in-None.is)))
+returns-in-None-clause-told c = grind (arith, told_part-none)
 
 pub returns-in-None-clause-name : goal.returns-in-None-clause-name
 returns-in-None-clause-name c =
