@@ -1,6 +1,6 @@
 //! Runs that fill a file: what is written, and what is told of files and sheets that don't fit.
 
-use crate::ran::run_with;
+use crate::ran::check;
 use std::test::Fail;
 
 /// A file with what a sheet leaves as it is, up to the sets of a 6x6x6; sets, which a sheet replaces; and what stands
@@ -40,26 +40,33 @@ const CLOCK_SETS: &str = ",\"scrambleSets\":[\
 {\"id\":1,\"scrambles\":[\"UR1+\",\"UR2+\",\"y2\",\"ALL5-\",\"UL3-\"],\"extraScrambles\":[\"U1+\",\"U2+\"]},\
 {\"id\":2,\"scrambles\":[\"DR1+\",\"DR2+\",\"y2\",\"ALL0+\",\"DL3-\"],\"extraScrambles\":[\"L1+\",\"L2+\"]}]";
 
+/// The parts of the file, and of the sheet behind it.
+static FILE: [&str; 4] = [FRONT, OLD_SETS, BEHIND, END];
+
+static SHEET: [&str; 4] = ["\n=====\n", SIX, CLOCK_A, CLOCK_B];
+
+/// Reads and writes that fail, the exit code, and what is written, in parts, and told.
+static FILLED: [([&[u32]; 2], u8, &[&str], &str); 3] = [
+    (
+        [&[], &[]],
+        0,
+        &[WRITTEN, SIX_SETS, BEHIND, CLOCK_SETS, END],
+        "left out: 444 1: Final",
+    ),
+    ([&[5], &[]], 5, &[], "input could not be read"),
+    (
+        [&[], &[2]],
+        6,
+        &["{\"formatV"],
+        "output could not be written",
+    ),
+];
+
 #[test]
 fn a_file_is_filled(rt: HostRuntime) -> Result<(), Fail> {
-    let alloc = rt.alloc();
-    let input = format!(in alloc;
-        "{FRONT}{OLD_SETS}{BEHIND}{END}\n=====\n{SIX}{CLOCK_A}{CLOCK_B}"
-    )?;
-    let wanted = format!(in alloc; "{WRITTEN}{SIX_SETS}{BEHIND}{CLOCK_SETS}{END}")?;
-    let ran = run_with(alloc, "fill", input.as_str(), &[], &[])?;
-    assert_eq!(rt; ran.code, 0);
-    assert_eq!(rt; ran.out.contents(), wanted.as_bytes());
-    assert_eq!(rt;
-        ran.err.contents(),
-        b"scramble-wcif: left out: 444 1: Final\n".as_slice()
-    );
-    let ran = run_with(alloc, "fill", input.as_str(), &[5], &[])?;
-    assert_eq!(rt; ran.code, 5);
-    assert_eq!(rt; ran.out.contents(), b"".as_slice());
-    let ran = run_with(alloc, "fill", input.as_str(), &[], &[2])?;
-    assert_eq!(rt; ran.code, 6);
-    assert_eq!(rt; ran.out.contents(), b"{\"formatV".as_slice());
+    for (fails, code, out, message) in &FILLED {
+        check(&rt, "fill", &FILE, &SHEET, *fails, *code, out, message)?;
+    }
     Ok(())
 }
 
@@ -70,103 +77,59 @@ const OTHER_EVENT: &str =
 const THIRD: &str =
     "Round 3: Skewb, at least 2\nGroup A\n1. U\n2. U\n3. U\n4. U\n5. U\nE1. U\nE2. U\n\n";
 
-/// Inputs that are refused, each in four parts, of which the first is the file that fits where nothing is said, and what
-/// is told of each.
-static REFUSED: [(Option<&str>, &str, &str, &str, &str); 12] = [
+/// Inputs behind the file, in parts, that are refused, and what is told of each.
+static REFUSED: [(&[&str], &str); 11] = [
+    (&["\n", SIX], "no line ===== between a file and a sheet"),
     (
-        None,
-        "\n",
-        SIX,
-        "",
+        &["=====\n", SIX],
         "no line ===== between a file and a sheet",
     ),
+    (&["\n====="], "no line ===== between a file and a sheet"),
     (
-        None,
-        "=====\n",
-        SIX,
-        "",
-        "no line ===== between a file and a sheet",
-    ),
-    (
-        None,
-        "\n=====",
-        "",
-        "",
-        "no line ===== between a file and a sheet",
-    ),
-    (
-        Some("[]"),
-        "\n=====\n",
-        "",
-        "",
-        "no competition: no list of events",
-    ),
-    (
-        Some("{\"events\":[]"),
-        "\n=====\n",
-        "x",
-        "",
-        "no JSON at byte 13",
-    ),
-    (
-        None,
-        "\n=====\n=====\n",
-        SIX,
-        "",
+        &["\n=====\n=====\n", SIX],
         "sheet line 1: no head of the next round",
     ),
     (
-        None,
-        "\n=====\n",
-        SIX,
-        "Round 2: Clock, at least 2\nGroup A\n1. U\n",
+        &[
+            "\n=====\n",
+            SIX,
+            "Round 2: Clock, at least 2\nGroup A\n1. U\n",
+        ],
         "sheet line 11: no scramble of the event",
     ),
     (
-        None,
-        "\n=====\n",
-        SIX,
-        "Round 2: Clock, at least 2\n",
+        &["\n=====\n", SIX, "Round 2: Clock, at least 2\n"],
         "sheet line 10: the sheet ends within a round",
     ),
-    (None, "\n=====\n", "", "", "sheet round 1: missing"),
-    (None, "\n=====\n", SIX, "", "sheet round 2: missing"),
+    (&["\n=====\n"], "sheet round 1: missing"),
+    (&["\n=====\n", SIX], "sheet round 2: missing"),
     (
-        None,
-        "\n=====\n",
-        SIX,
-        CLOCK_A,
+        &["\n=====\n", SIX, CLOCK_A],
         "sheet round 2: another number of groups",
     ),
     (
-        None,
-        "\n=====\n",
-        SIX,
-        OTHER_EVENT,
+        &["\n=====\n", SIX, OTHER_EVENT],
         "sheet round 2: another event",
     ),
+    (
+        &["\n=====\n", SIX, CLOCK_A, CLOCK_B, THIRD],
+        "sheet round 3: not in the file",
+    ),
+];
+
+/// Inputs without such a file, and what is told of each.
+static NO_FILES: [(&str, &str); 2] = [
+    ("[]\n=====\n", "no competition: no list of events"),
+    ("{\"events\":[]\n=====\nx", "no JSON at byte 13"),
 ];
 
 #[test]
 fn what_does_not_fit_is_refused(rt: HostRuntime) -> Result<(), Fail> {
-    let alloc = rt.alloc();
-    let file = format!(in alloc; "{FRONT}{OLD_SETS}{BEHIND}{END}")?;
-    let file = file.as_str();
-    for (before, between, sheet, last, message) in &REFUSED {
-        let before = before.unwrap_or(file);
-        let input = format!(in alloc; "{before}{between}{sheet}{last}")?;
-        let ran = run_with(alloc, "fill", input.as_str(), &[], &[])?;
-        let told = format!(in alloc; "scramble-wcif: {message}\n")?;
-        assert_eq!(rt; ran.err.contents(), told.as_bytes());
-        assert_eq!(rt; ran.code, 3);
-        assert_eq!(rt; ran.out.contents(), b"".as_slice());
+    for (input, message) in &REFUSED {
+        check(&rt, "fill", &FILE, input, [&[], &[]], 3, &[], message)?;
     }
-    let input = format!(in alloc; "{file}\n=====\n{SIX}{CLOCK_A}{CLOCK_B}{THIRD}")?;
-    let ran = run_with(alloc, "fill", input.as_str(), &[], &[])?;
-    assert_eq!(rt; ran.code, 3);
-    assert_eq!(rt;
-        ran.err.contents(),
-        b"scramble-wcif: sheet round 3: not in the file\n".as_slice()
-    );
+    for (input, message) in &NO_FILES {
+        check(&rt, "fill", &[input], &[], [&[], &[]], 3, &[], message)?;
+    }
     Ok(())
 }

@@ -2,14 +2,15 @@
 
 use scr_outside::{MemSink, MemSource};
 use scr_wcif::{Wcif, run_on_words};
-use std::alloc::Global;
+use std::alloc::{AllocError, Global};
+use std::process::Abort;
 use std::test::Fail;
 
 /// What a run gave: its exit code, what it wrote, and what it told.
-pub(crate) struct Ran {
-    pub code: u8,
-    pub out: MemSink,
-    pub err: MemSink,
+struct Ran {
+    code: u8,
+    out: MemSink,
+    err: MemSink,
 }
 
 // By hand, so that the proof of whoever lets one go meets one call, and not the letting go of each of its parts.
@@ -24,7 +25,7 @@ impl Drop for Ran {
 }
 
 /// Runs this command on an input, where these reads and these writes fail.
-pub(crate) fn run_with(
+fn run_with(
     alloc: Global,
     command: &str,
     input: &str,
@@ -38,4 +39,39 @@ pub(crate) fn run_with(
     let words = [command];
     let code = run_on_words(&Wcif, alloc, Ok(&words), &mut source, &mut out, &mut err);
     Ok(Ran { code, out, err })
+}
+
+/// Texts, one behind the other.
+fn joined(alloc: Global, front: &[&str], behind: &[&str]) -> Result<String, AllocError> {
+    let mut joined = String::new(alloc);
+    for text in front {
+        joined.push_str(text)?;
+    }
+    for text in behind {
+        joined.push_str(text)?;
+    }
+    Ok(joined)
+}
+
+/// Runs this command on an input, in parts of its front and parts behind it, where these reads and these writes fail;
+/// and compares its exit code, what it writes, in parts, and the message that it tells.
+pub(crate) fn check<R: Abort + AllocGlobal>(
+    rt: &R,
+    command: &str,
+    front: &[&str],
+    behind: &[&str],
+    fails: [&[u32]; 2],
+    code: u8,
+    out: &[&str],
+    message: &str,
+) -> Result<(), Fail> {
+    let [reads, writes] = fails;
+    let input = joined(rt.alloc(), front, behind)?;
+    let out = joined(rt.alloc(), out, &[])?;
+    let told = joined(rt.alloc(), &["scramble-wcif: ", message, "\n"], &[])?;
+    let ran = run_with(rt.alloc(), command, input.as_str(), reads, writes)?;
+    assert_eq!(rt; ran.err.contents(), told.as_bytes());
+    assert_eq!(rt; ran.code, code);
+    assert_eq!(rt; ran.out.contents(), out.as_bytes());
+    Ok(())
 }

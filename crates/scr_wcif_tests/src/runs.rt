@@ -1,6 +1,6 @@
 //! Runs on files as competitions have them, on files that are refused, and with inputs and outputs that fail.
 
-use crate::ran::run_with;
+use crate::ran::check;
 use std::test::Fail;
 
 /// A file with what is left out, a name that needs escapes, and parts that no list needs.
@@ -13,33 +13,24 @@ const FILE: &str =
 
 const LIST: &str = "version 2\nclock 26: First round\nclock 1: Final\n";
 
-const LEFT_OUT: &str = "scramble-wcif: left out: 444bf 1: Final\n";
+const LEFT_OUT: &str = "left out: 444bf 1: Final";
 
 #[test]
 fn a_list_is_written(rt: HostRuntime) -> Result<(), Fail> {
-    let ran = run_with(rt.alloc(), "list", FILE, &[], &[])?;
-    assert_eq!(rt; ran.code, 0);
-    assert_eq!(rt; ran.out.contents(), LIST.as_bytes());
-    assert_eq!(rt; ran.err.contents(), LEFT_OUT.as_bytes());
-    Ok(())
+    check(&rt, "list", &[FILE], &[], [&[], &[]], 0, &[LIST], LEFT_OUT)
 }
+
+/// Reads and writes that fail, the exit code, and what is written and told.
+static FAILING: [([&[u32]; 2], u8, &str, &str); 2] = [
+    ([&[3], &[]], 5, "", "input could not be read"),
+    ([&[], &[2]], 6, "version 2", "output could not be written"),
+];
 
 #[test]
 fn faults_are_told(rt: HostRuntime) -> Result<(), Fail> {
-    let ran = run_with(rt.alloc(), "list", FILE, &[3], &[])?;
-    assert_eq!(rt; ran.code, 5);
-    assert_eq!(rt; ran.out.contents(), b"".as_slice());
-    assert_eq!(rt;
-        ran.err.contents(),
-        b"scramble-wcif: input could not be read\n".as_slice()
-    );
-    let ran = run_with(rt.alloc(), "list", FILE, &[], &[2])?;
-    assert_eq!(rt; ran.code, 6);
-    assert_eq!(rt; ran.out.contents(), b"version 2".as_slice());
-    assert_eq!(rt;
-        ran.err.contents(),
-        b"scramble-wcif: output could not be written\n".as_slice()
-    );
+    for (fails, code, out, message) in &FAILING {
+        check(&rt, "list", &[FILE], &[], *fails, *code, &[out], message)?;
+    }
     Ok(())
 }
 
@@ -81,11 +72,7 @@ static REFUSED: [(&str, &str); 10] = [
 #[test]
 fn what_is_no_file_is_refused(rt: HostRuntime) -> Result<(), Fail> {
     for (text, message) in &REFUSED {
-        let ran = run_with(rt.alloc(), "list", text, &[], &[])?;
-        assert_eq!(rt; ran.code, 3);
-        assert_eq!(rt; ran.out.contents(), b"".as_slice());
-        let told = format!(in rt.alloc(); "scramble-wcif: {message}\n")?;
-        assert_eq!(rt; ran.err.contents(), told.as_bytes());
+        check(&rt, "list", &[text], &[], [&[], &[]], 3, &[], message)?;
     }
     Ok(())
 }
