@@ -1,10 +1,8 @@
 //! The random moves of a big cube.
 
 ghost use Rattle.std.specs.Prelude.{◌≡◌, ◌+◌, ◌-◌, ◌*◌, ◌^◌, ◌<◌, ◌≤◌, Some, None, IfOk, IfErr, OnErr, slice_get};
-ghost use Rattle.scr_notation.specs.declared.turn.Turn.{Turn as Letter};
-ghost use Rattle.scr_bigs.specs.BigCubes.{IsSide, cube_event, cube_turns, turns_after, turns_made};
+ghost use Rattle.scr_bigs.specs.BigCubes.{IsSide, cube_event, cube_turns, turns_made};
 ghost use Rattle.scr_bigs.specs.CubeMoves.{cube_moves, attempts_read};
-ghost use Rattle.scr_bigs.specs.LeftOut.{AreLeft, number_of_choice};
 
 use crate::choosing::choose;
 use scr_draw::DrawLimit;
@@ -37,11 +35,20 @@ pub fn big_cube<W: Words, const SIDE: usize>(
     let side = SIDE as u8;
     let mut scramble = Scramble::new(event_of(side));
     let mut left_out = LeftOut { first: 0, count: 0 };
-    for made in 0..turn_count(side) {
+    for made in 0..20 * (side - 2) {
         let choice = choose(words, 9 * (side - 1) - left_out.count, attempts)?;
-        let number = number_of(left_out, choice);
+        let number = if choice < left_out.first {
+            choice
+        } else {
+            choice + left_out.count
+        };
         push_turn(&mut scramble, turn_at(side, number));
-        left_out = left_out_after(side, number);
+        let slab = number / 3;
+        let place = slab % (side - 1);
+        left_out = LeftOut {
+            first: 3 * (slab - place),
+            count: 3 * (place + 1),
+        };
     }
     Ok(scramble)
 }
@@ -58,37 +65,12 @@ fn event_of(side: u8) -> Event
     }
 }
 
-/// How many turns its scrambles have.
-fn turn_count(side: u8) -> u8
-    requires { IsSide side }
-    ensures { result ≡ turns_made side }
-{
-    match side {
-        5 => 60,
-        6 => 80,
-        _ => 100,
-    }
-}
-
 /// The turns that may not come next, by their numbers among all turns: so many from the first on. They are those of the
 /// axis of the turn before, up to its slab.
 #[derive(Clone, Copy)]
 struct LeftOut {
     first: u8,
     count: u8,
-}
-
-/// The number among all turns of a choice with a number among those that aren't left out.
-fn number_of(left_out: LeftOut, choice: u8) -> u8
-    requires { choice + left_out.count ≤ 255 }
-    ensures number { result ≡ number_of_choice left_out.first left_out.count choice }
-    ensures at_most { result ≤ choice + left_out.count }
-{
-    if choice < left_out.first {
-        choice
-    } else {
-        choice + left_out.count
-    }
 }
 
 /// The turn with this number among all turns, in the order of axis, slab and amount.
@@ -115,20 +97,5 @@ fn turn_at(side: u8, number: u8) -> Turn
             depth: place - near + 1,
             amount,
         }
-    }
-}
-
-/// The turns that may not follow the one with this number.
-fn left_out_after(side: u8, number: u8) -> LeftOut
-    requires side { IsSide side }
-    requires below { number < 9 * (side - 1) }
-    ensures { (turn : Letter) → slice_get (cube_turns side) number ≡ Some turn
-        → AreLeft side result.first result.count (turns_after side turn) }
-{
-    let slab = number / 3;
-    let place = slab % (side - 1);
-    LeftOut {
-        first: 3 * (slab - place),
-        count: 3 * (place + 1),
     }
 }

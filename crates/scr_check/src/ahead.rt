@@ -1,6 +1,6 @@
 //! What is read ahead of the bytes that are taken.
 
-ghost use Rattle.std.specs.Prelude.{◌≡◌, ◌<◌, ◌≤◌, [], ◌∷◌, length, take, true, false, OnOk, OnErr, IfOk};
+ghost use Rattle.std.specs.Prelude.{◌≡◌, ◌<◌, ◌≤◌, [], ◌∷◌, length, take, true, false, OnOk, OnErr};
 ghost use Rattle.std.specs.Prelude.{IfSome, IfNone};
 ghost use Rattle.scr_outside.specs.Change.{intake_of, Gives, Fails, TellsEnd};
 
@@ -83,21 +83,10 @@ impl Ahead {
         ensures kept { OnErr result (self.new ≡ self.old) }
         ensures few { length self.new.bytes ≤ most_ahead }
     {
-        let count = read_into(source, &mut self.buffer)?;
+        let count = source.read(&mut self.buffer[..])?;
         self.from = 0;
         self.to = count;
         self.ended = count == 0;
         Ok(())
     }
-}
-
-fn read_into<S: Source>(source: &mut S, buffer: &mut [u8; ROOM]) -> Result<usize, Failed>
-    ensures within { IfOk result (λ n. n ≤ 4096) }
-    ensures gives { IfOk result (λ n.
-        Gives (intake_of S.left S.faults S.ends source.old source.new) (take n buffer.new)) }
-    ensures more { IfOk result (λ n. 0 < n → S.ends source.new ≡ S.ends source.old) }
-    ensures end { IfOk result (λ n. n ≡ 0 → TellsEnd (intake_of S.left S.faults S.ends source.old source.new)) }
-    ensures failed { OnErr result (Fails (intake_of S.left S.faults S.ends source.old source.new)) }
-{
-    source.read(&mut buffer[..])
 }

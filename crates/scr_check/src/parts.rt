@@ -1,6 +1,6 @@
 //! The list part of an input.
 
-ghost use Rattle.std.specs.Prelude.{◌≡◌, ◌≤◌, length, take, bytes_eq, IfOk, OnErr};
+ghost use Rattle.std.specs.Prelude.{◌≡◌, ◌≤◌, length, take, IfOk, OnErr};
 ghost use Rattle.scr_check.specs.Ahead.{most_ahead};
 ghost use Rattle.scr_check.specs.Parts.{list_room, separator, ends_line};
 ghost use Rattle.scr_check.specs.Reading.{reading, source_name};
@@ -38,7 +38,7 @@ pub fn list_part<S: Source>(
     while !text.is_full() {
         let byte = reader.next()?;
         let held = text.as_slice();
-        if ends_line(byte) && is_separator(&held[start..]) {
+        if ends_line(byte) && &held[start..] == SEPARATOR.as_slice() {
             return Ok(first_bytes(&held[..start]));
         }
         let Some(byte) = byte else {
@@ -60,13 +60,6 @@ fn ends_line(byte: Option<u8>) -> bool
         Some(byte) => byte == b'\n',
         None => true,
     }
-}
-
-/// Whether a line is one that stands between a list and a sheet.
-fn is_separator(line: &[u8]) -> bool
-    ensures { result ≡ bytes_eq line.now separator }
-{
-    line == SEPARATOR.as_slice()
 }
 
 /// The first bytes of a text, as many as are given of a list part.

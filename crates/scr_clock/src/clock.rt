@@ -15,7 +15,7 @@ const BACK_PINS: [u8; 14] = [1, 0, 8, 0, 0, 0, 2, 0, 4, 9, 12, 15, 3, 6];
 /// A Clock: fourteen dials, each at an hour from 0 to 11.
 #[derive(Clone, Copy, Debug, PartialEq, Eq)]
 pub struct Clock {
-    dials: [u8; 14],
+    pub(crate) dials: [u8; 14],
 }
 
 impl Model for Clock {
@@ -45,18 +45,10 @@ impl Clock {
         ensures value { IfSome result (λ clock. clock ≡ dials) }
     {
         if dials.iter().all(|dial| *dial < 12) {
-            Some(Clock::of_valid(dials))
+            Some(Clock { dials })
         } else {
             None
         }
-    }
-
-    /// The Clock with these dials, each below 12.
-    pub(crate) fn of_valid(dials: [u8; 14]) -> Clock
-        requires { IsClock dials }
-        ensures { result ≡ dials }
-    {
-        Clock { dials }
     }
 
     /// The dials, in the order of `from_dials`.

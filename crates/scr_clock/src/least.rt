@@ -34,17 +34,9 @@ fn turns_lead(clock: &Clock, turns: u32) -> bool
 {
     match turns {
         0 => is_solved(clock),
-        1 => one_turn_leads(clock),
+        1 => turn_of_side_leads(clock, false) || turn_of_side_leads(clock, true),
         _ => two_turns_lead(clock),
     }
-}
-
-/// Whether one turn leads to solved.
-fn one_turn_leads(clock: &Clock) -> bool
-    ensures exact { IsTrue result ↔ (SidesLead (false ∷ []) clock.now ⊎ SidesLead (true ∷ []) clock.now) }
-    ensures valid { IsClock clock.now }
-{
-    turn_of_side_leads(clock, false) || turn_of_side_leads(clock, true)
 }
 
 /// Whether two turns lead to solved. Where they are of both sides, that of the back may come first.

@@ -42,7 +42,9 @@ impl Numbering for ClockNumbers {
 
     #[tactic(auto, using(crate::proofs::Cited::digits))]
     fn state_at(&self, number: u128) -> Clock {
-        Clock::of_valid(in_bytes(&dial_radix().unrank(number)))
+        Clock {
+            dials: in_bytes(&dial_radix().unrank(number)),
+        }
     }
 
     fn number_of(&self, state: &Clock) -> u128 {

@@ -1,18 +1,16 @@
 //! The words of the command line.
 
-ghost use Rattle.std.specs.Prelude.{◌≡◌, ◌≤◌, [], ◌∷◌, false, codes, IsTrue, Option, Some, MatchResult, option_map, Ok, IfOk, ok_or};
+ghost use Rattle.std.specs.Prelude.{◌≡◌, ◌∷◌, false, codes, Some, MatchResult, Ok, IfOk, ok_or};
 ghost use Rattle.scr_command.specs.declared.command.UsageFault.TheVariants.{Grammar, NoSeed};
 ghost use Rattle.scr_command.specs.declared.command.CommandFault.TheVariants.{Usage, NoMemory};
-ghost use Rattle.scr_options.specs.OptionWords.{options_of};
 ghost use Rattle.scr_options.specs.Split.{found_values};
 ghost use Rattle.scr_options.specs.Words.{texts};
 ghost use Rattle.scr_command.specs.OptionTable.{option_row, sheet_options, check_options, IsSettable};
-ghost use Rattle.scr_command.specs.Command.{command_of, sheet_of, check_of, single_of, tables_of, load_of, event_for, number_in};
+ghost use Rattle.scr_command.specs.Command.{command_of, sheet_of, check_of, single_of, event_for, number_in};
 ghost use Rattle.std.specs.Str.{bytes_eq};
-ghost use Rattle.scr_text.specs.Steps.{and_then};
-ghost use Rattle.scr_command.specs.Reading.{IsRefusal, IsOptionsRefusal, IsCommand, fault_of_options};
+ghost use Rattle.scr_command.specs.Reading.{IsRefusal, IsCommand, fault_of_options};
 
-use crate::options::{OptionName, Options, SEED, check_options, sheet_options, usual};
+use crate::options::{OptionName, Options, SEED, check_options, sheet_options};
 use scr_list::event_named;
 use scr_notation::Event;
 use scr_options::{OptionsFault, SplitOptions, split_options};
@@ -92,22 +90,15 @@ pub fn read_command(alloc: Global, words: &[&str]) -> Result<Command, CommandFau
         (IsRefusal (texts words.now)) }
     ensures command { IfOk result IsCommand }
 {
-    match words {
-        [] => Err(CommandFault::Usage(UsageFault::Grammar)),
-        [command, words @ ..] => read_words_after(alloc, command, words),
-    }
-}
-
-/// Reads the words after the name of a command.
-fn read_words_after(alloc: Global, command: &str, words: &[&str]) -> Result<Command, CommandFault>
-    ensures answer { MatchResult result (λ read. command_of (command.now ∷ texts words.now) ≡ Ok read)
-        (IsRefusal (command.now ∷ texts words.now)) }
-    ensures command { IfOk result IsCommand }
-{
-    if command == "sheet" {
-        read_sheet(alloc, words)
-    } else if command == "check" {
-        read_check(alloc, words)
+    let [command, words @ ..] = words else {
+        return Err(CommandFault::Usage(UsageFault::Grammar));
+    };
+    if *command == "sheet" {
+        let split = split_options(alloc, &sheet_options(), words)?;
+        Ok(read_options(&split)?)
+    } else if *command == "check" {
+        let split = split_options(alloc, &check_options(), words)?;
+        Ok(read_seed_and_attempts(&split)?)
     } else {
         Ok(read_without_options(command, words)?)
     }
@@ -123,9 +114,16 @@ fn read_without_options(command: &str, words: &[&str]) -> Result<Command, UsageF
     if command == "one" {
         read_single(words, false)
     } else if command == "tables" {
-        read_tables(words)
+        let [event] = words else {
+            return Err(UsageFault::Grammar);
+        };
+        Ok(Command::Tables(read_event(event)?))
     } else if command == "load" {
-        read_load(words)
+        let [number] = words else {
+            return Err(UsageFault::Grammar);
+        };
+        let number = number_within(number.as_bytes(), 0, 9999).ok_or(UsageFault::Grammar)?;
+        Ok(Command::Load(number))
     } else if command == "net" {
         read_single(words, true)
     } else {
@@ -138,16 +136,9 @@ fn read_single(words: &[&str], nets: bool) -> Result<Command, UsageFault>
     ensures answer { result ≡ single_of nets (texts words.now) }
     ensures command { IfOk result IsCommand }
 {
-    match words {
-        [event, seed] => read_event_and_seed(event, seed, nets),
-        _ => Err(UsageFault::Grammar),
-    }
-}
-
-fn read_event_and_seed(event: &str, seed: &str, nets: bool) -> Result<Command, UsageFault>
-    ensures answer { result ≡ single_of nets (event.now ∷ seed.now ∷ []) }
-    ensures command { IfOk result IsCommand }
-{
+    let [event, seed] = words else {
+        return Err(UsageFault::Grammar);
+    };
     let event = read_event(event)?;
     if nets && event.net_side().is_none() {
         return Err(UsageFault::Grammar);
@@ -160,37 +151,6 @@ fn read_event_and_seed(event: &str, seed: &str, nets: bool) -> Result<Command, U
     })
 }
 
-/// Reads the words after `tables`.
-fn read_tables(words: &[&str]) -> Result<Command, UsageFault>
-    ensures answer { result ≡ tables_of (texts words.now) }
-    ensures command { IfOk result IsCommand }
-{
-    match words {
-        [event] => Ok(Command::Tables(read_event(event)?)),
-        _ => Err(UsageFault::Grammar),
-    }
-}
-
-/// Reads the words after `load`.
-fn read_load(words: &[&str]) -> Result<Command, UsageFault>
-    ensures answer { result ≡ load_of (texts words.now) }
-    ensures command { IfOk result IsCommand }
-{
-    match words {
-        [number] => read_load_number(number),
-        _ => Err(UsageFault::Grammar),
-    }
-}
-
-/// Reads the number of `load`.
-fn read_load_number(number: &str) -> Result<Command, UsageFault>
-    ensures answer { result ≡ load_of (number.now ∷ []) }
-    ensures command { IfOk result IsCommand }
-{
-    let number = number_within(number.as_bytes(), 0, 9999).ok_or(UsageFault::Grammar)?;
-    Ok(Command::Load(number))
-}
-
 /// Reads the word of an event.
 fn read_event(event: &str) -> Result<Event, UsageFault>
     ensures answer { result ≡ event_for event.now }
@@ -199,28 +159,6 @@ fn read_event(event: &str) -> Result<Event, UsageFault>
         return Err(UsageFault::No444);
     }
     event_named(event.as_bytes()).ok_or(UsageFault::Grammar)
-}
-
-/// Reads the words after `sheet`.
-fn read_sheet(alloc: Global, words: &[&str]) -> Result<Command, CommandFault>
-    ensures answer { MatchResult result
-        (λ command. and_then (ok_or (options_of sheet_options (texts words.now)) Grammar) sheet_of ≡ Ok command)
-        (IsOptionsRefusal sheet_of sheet_options (texts words.now)) }
-    ensures command { IfOk result IsCommand }
-{
-    let split = split_options(alloc, &sheet_options(), words)?;
-    Ok(read_options(&split)?)
-}
-
-/// Reads the words after `check`.
-fn read_check(alloc: Global, words: &[&str]) -> Result<Command, CommandFault>
-    ensures answer { MatchResult result
-        (λ command. and_then (ok_or (options_of check_options (texts words.now)) Grammar) check_of ≡ Ok command)
-        (IsOptionsRefusal check_of check_options (texts words.now)) }
-    ensures command { IfOk result IsCommand }
-{
-    let split = split_options(alloc, &check_options(), words)?;
-    Ok(read_seed_and_attempts(&split)?)
 }
 
 /// Reads the options of `sheet`, which are split.
@@ -260,6 +198,6 @@ fn read_number(split: &SplitOptions<'_>, option: OptionName) -> Result<u32, Usag
         Some(text) => {
             number_within(text.as_bytes(), range.least, range.greatest).ok_or(UsageFault::Grammar)
         }
-        None => Ok(usual(option)),
+        None => Ok(range.usual),
     }
 }

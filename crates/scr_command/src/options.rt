@@ -34,65 +34,35 @@ pub struct Range {
     pub usual: u32,
 }
 
-/// What the table of options has of one.
-#[derive(Clone, Copy)]
-struct OptionRow {
-    name: &'static str,
-    range: Range,
-}
-
 impl OptionName {
     /// Its name, which words spell behind two hyphens.
     pub fn name(self) -> &'static str
         ensures { result.now ≡ (option_row self).name }
     {
-        self.row().name
+        match self {
+            OptionName::Workers => "workers",
+            OptionName::Tries => "tries",
+            OptionName::Attempts => "attempts",
+            OptionName::Short => "short",
+        }
     }
 
     /// The numbers that it may set.
     pub fn range(self) -> Range
         ensures { result ≡ (option_row self).range }
     {
-        self.row().range
-    }
-
-    /// Its row in the table of options.
-    fn row(self) -> OptionRow
-        ensures name { result.name.now ≡ (option_row self).name }
-        ensures range { result.range ≡ (option_row self).range }
-    {
-        let (name, range) = match self {
-            OptionName::Workers => ("workers", from_to(1, 64, 1)),
-            OptionName::Tries => ("tries", from_to(0, 100_000, 2000)),
-            OptionName::Attempts => ("attempts", from_to(1, 1_000_000, 1000)),
-            OptionName::Short => ("short", from_to(1, 1000, 1)),
+        let (least, greatest, usual) = match self {
+            OptionName::Workers => (1, 64, 1),
+            OptionName::Tries => (0, 100_000, 2000),
+            OptionName::Attempts => (1, 1_000_000, 1000),
+            OptionName::Short => (1, 1000, 1),
         };
-        OptionRow { name, range }
+        Range {
+            least,
+            greatest,
+            usual,
+        }
     }
-
-    /// As the splitting of words has it.
-    fn form(self) -> OptionForm
-        ensures { form_of result ≡ valued (option_row self).name }
-    {
-        valued(self.name())
-    }
-}
-
-fn from_to(least: u32, greatest: u32, usual: u32) -> Range
-    ensures { result ≡ record { least = least; greatest = greatest; usual = usual } }
-{
-    Range {
-        least,
-        greatest,
-        usual,
-    }
-}
-
-/// The number of an option that isn't there.
-pub(crate) fn usual(option: OptionName) -> u32
-    ensures { result ≡ (option_row option).range.usual }
-{
-    option.range().usual
 }
 
 /// An option with a value.
@@ -111,10 +81,10 @@ pub(crate) fn sheet_options() -> [OptionForm; 5]
 {
     [
         valued(SEED),
-        OptionName::Workers.form(),
-        OptionName::Tries.form(),
-        OptionName::Attempts.form(),
-        OptionName::Short.form(),
+        valued(OptionName::Workers.name()),
+        valued(OptionName::Tries.name()),
+        valued(OptionName::Attempts.name()),
+        valued(OptionName::Short.name()),
     ]
 }
 
@@ -122,7 +92,7 @@ pub(crate) fn sheet_options() -> [OptionForm; 5]
 pub(crate) fn check_options() -> [OptionForm; 2]
     ensures { forms_of result ≡ check_options }
 {
-    [valued(SEED), OptionName::Attempts.form()]
+    [valued(SEED), valued(OptionName::Attempts.name())]
 }
 
 /// How a sheet is made. The numbers never change a state that is drawn, but for the attempts, which may end a draw.
@@ -148,10 +118,10 @@ impl Default for Options {
     /// One worker, 2,000 tries, 1,000 attempts, one way to the square shape.
     fn default() -> Options {
         Options {
-            workers: usual(OptionName::Workers),
-            tries: usual(OptionName::Tries),
-            attempts: usual(OptionName::Attempts),
-            short: usual(OptionName::Short),
+            workers: OptionName::Workers.range().usual,
+            tries: OptionName::Tries.range().usual,
+            attempts: OptionName::Attempts.range().usual,
+            short: OptionName::Short.range().usual,
         }
     }
 }

@@ -10,7 +10,7 @@ use std::marker::Model;
 /// The corner DBL stands still. Places and pieces: 0 URF, 1 UFL, 2 ULB, 3 UBR, 4 DFR, 5 DLF, 6 DRB.
 #[derive(Clone, Copy, Debug, PartialEq, Eq)]
 pub struct Corners222 {
-    corners: Placed<7>,
+    pub(crate) corners: Placed<7>,
 }
 
 // Clauses see the orbit.
@@ -50,22 +50,6 @@ impl Corners222 {
         } else {
             None
         }
-    }
-
-    /// The state of an orbit that is known to be valid.
-    pub(crate) fn of_valid(corners: Placed<7>) -> Corners222
-        requires { IsCorners222 corners }
-        ensures { result ≡ corners }
-    {
-        Corners222 { corners }
-    }
-
-    /// The corners at their places, with their twists.
-    pub(crate) fn orbit(&self) -> Placed<7>
-        ensures same { result ≡ self.now }
-        ensures valid { IsCorners222 self.now }
-    {
-        self.corners
     }
 
     /// Which corner stands at each place.

@@ -14,8 +14,8 @@ use std::marker::Model;
 /// 4 DR, 5 DF, 6 DL, 7 DB, 8 FR, 9 FL, 10 BL, 11 BR.
 #[derive(Clone, Copy, Debug, PartialEq, Eq)]
 pub struct Cube {
-    corners: Placed<8>,
-    edges: Placed<12>,
+    pub(crate) corners: Placed<8>,
+    pub(crate) edges: Placed<12>,
 }
 
 // Clauses see the two orbits.
@@ -70,28 +70,11 @@ impl Cube {
         }
     }
 
-    /// The cube of orbits that are known to be valid.
-    pub(crate) fn of_valid(corners: Placed<8>, edges: Placed<12>) -> Cube
-        requires { IsCube (record { corners = corners; edges = edges }) }
-        ensures { result ≡ record { corners = corners; edges = edges } }
-    {
-        Cube { corners, edges }
-    }
-
-    /// The corners and the edges at their places, with their twists and flips.
-    pub(crate) fn orbits(&self) -> (Placed<8>, Placed<12>)
-        ensures corners { result.0 ≡ self.now.corners }
-        ensures edges { result.1 ≡ self.now.edges }
-        ensures valid { IsCube self.now }
-    {
-        (self.corners, self.edges)
-    }
-
     /// Does nothing: the cube is valid.
     pub(crate) fn is_valid(&self)
         ensures { IsCube self.now }
     {
-        let _orbits = self.orbits();
+        let _corners = self.corners();
     }
 
     /// This cube and then another: each corner place gets this cube's corner from the place that `next` has there, with

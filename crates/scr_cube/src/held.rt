@@ -17,8 +17,8 @@ use std::marker::Model;
 /// `Fw` and `Fw'`, and then number `b` of none, `Uw`, `Uw2` and `Uw'`.
 #[derive(Clone, Copy, Debug, PartialEq, Eq)]
 pub struct Held {
-    cube: Cube,
-    centres: [u8; 6],
+    pub(crate) cube: Cube,
+    pub(crate) centres: [u8; 6],
 }
 
 // Clauses see the cube and the centres.
@@ -36,7 +36,7 @@ impl Model for Held {
 }
 
 /// The centres of the 24 holds, in the order of their numbers.
-static HOLDS: [[u8; 6]; 24] = [
+pub(crate) static HOLDS: [[u8; 6]; 24] = [
     [0, 1, 2, 3, 4, 5],
     [2, 1, 3, 5, 4, 0],
     [3, 1, 5, 0, 4, 2],
@@ -83,17 +83,6 @@ impl Held {
         match number_of_hold(&centres) {
             Some(_) => Some(Held { cube, centres }),
             None => None,
-        }
-    }
-
-    /// A cube in the hold with this number, below 24.
-    pub(crate) fn in_hold(cube: Cube, hold: u8) -> Held
-        requires { hold < 24 }
-        ensures { result ≡ record { cube = cube; centres = hold_centres hold } }
-    {
-        Held {
-            cube,
-            centres: HOLDS[hold as usize],
         }
     }
 

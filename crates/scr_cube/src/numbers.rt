@@ -1,12 +1,12 @@
 //! The numbers of cubes, by which they are drawn.
 ghost use Rattle.std.specs.Prelude.{◌≡◌, [], ◌∷◌};
-ghost use Rattle.scr_cube.specs.Cube333.{IsCube, cube_digits, cube_numbered, cube_numbers};
+ghost use Rattle.scr_cube.specs.Cube333.{cube_numbered, cube_numbers};
 ghost use Rattle.scr_cube.specs.Cube222.{numbered_222};
 ghost use Rattle.scr_cube.specs.Held.{held_numbered};
 
 use crate::corners::Corners222;
 use crate::cube::Cube;
-use crate::held::Held;
+use crate::held::{HOLDS, Held};
 use scr_draw::{NumberedStates, Numbering};
 use scr_orbit::Placed;
 use scr_rank::permutations::{is_odd, rank_permutation, unrank_with_parity};
@@ -38,19 +38,6 @@ fn held_radix() -> MixedRadix<2>
     MixedRadix::new([24, CubeNumbers.count()])
 }
 
-/// The numbers of a cube's flips, of its twists, of its list of corners, and half the number of its list of edges.
-fn digits_of(cube: &Cube) -> [u128; 4]
-    requires { IsCube cube.now }
-    ensures { result ≡ cube_digits cube.now }
-{
-    [
-        TwistRank::<12, 2>::rank(&cube.flips()),
-        TwistRank::<8, 3>::rank(&cube.twists()),
-        PermRank::<8>::rank(&cube.corners()),
-        u128::from(rank_permutation(&cube.edges()) / 2),
-    ]
-}
-
 impl NumberedStates<Cube> for CubeNumbers {
     ghost numbered = { λ _. cube_numbered };
 }
@@ -63,14 +50,19 @@ impl Numbering for CubeNumbers {
         let corners = PermRank::<8>::unrank(corners);
         let mut edges = [0; 12];
         unrank_with_parity(edge_half as u64, is_odd(&corners), &mut edges);
-        Cube::of_valid(
-            Placed::new(corners, TwistRank::<8, 3>::unrank(twists)),
-            Placed::new(edges, TwistRank::<12, 2>::unrank(flips)),
-        )
+        Cube {
+            corners: Placed::new(corners, TwistRank::<8, 3>::unrank(twists)),
+            edges: Placed::new(edges, TwistRank::<12, 2>::unrank(flips)),
+        }
     }
 
     fn number_of(&self, state: &Cube) -> u128 {
-        MixedRadix::new(CUBE_BASES).rank(&digits_of(state))
+        MixedRadix::new(CUBE_BASES).rank(&[
+            TwistRank::<12, 2>::rank(&state.flips()),
+            TwistRank::<8, 3>::rank(&state.twists()),
+            PermRank::<8>::rank(&state.corners()),
+            u128::from(rank_permutation(&state.edges()) / 2),
+        ])
     }
 
     // 2^11 flips, 3^7 twists, 8! lists of corners, and 12!/2 lists of edges, those of the corners' parity.
@@ -88,10 +80,12 @@ impl Numbering for Numbers222 {
 
     fn state_at(&self, number: u128) -> Corners222 {
         let [twists, corners] = MixedRadix::new(BASES_222).unrank(number);
-        Corners222::of_valid(Placed::new(
-            PermRank::<7>::unrank(corners),
-            TwistRank::<7, 3>::unrank(twists),
-        ))
+        Corners222 {
+            corners: Placed::new(
+                PermRank::<7>::unrank(corners),
+                TwistRank::<7, 3>::unrank(twists),
+            ),
+        }
     }
 
     fn number_of(&self, state: &Corners222) -> u128 {
@@ -115,7 +109,10 @@ impl Numbering for HeldNumbers {
 
     fn state_at(&self, number: u128) -> Held {
         let [hold, cube] = held_radix().unrank(number);
-        Held::in_hold(CubeNumbers.state_at(cube), hold as u8)
+        Held {
+            cube: CubeNumbers.state_at(cube),
+            centres: HOLDS[hold as usize],
+        }
     }
 
     fn number_of(&self, state: &Held) -> u128 {

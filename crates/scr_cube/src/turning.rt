@@ -20,11 +20,10 @@ impl PowerTurned for Cube {
     ghost after = { (after_letter cube_powers) };
 
     fn turned(&self, number: usize) -> Cube {
-        let (corners, edges) = self.orbits();
-        Cube::of_valid(
-            corners.turned(&corner_turns()[number], 3),
-            edges.turned(&edge_turns()[number], 2),
-        )
+        Cube {
+            corners: self.corners.turned(&corner_turns()[number], 3),
+            edges: self.edges.turned(&edge_turns()[number], 2),
+        }
     }
 
     ghost generators = { HasGenerators-puzzle cube_powers (lit≤ tt) };
@@ -40,7 +39,9 @@ impl PowerTurned for Corners222 {
     ghost after = { (after_letter powers_222) };
 
     fn turned(&self, number: usize) -> Corners222 {
-        Corners222::of_valid(self.orbit().turned(&turns_222()[number], 3))
+        Corners222 {
+            corners: self.corners.turned(&turns_222()[number], 3),
+        }
     }
 
     ghost generators = { HasGenerators-puzzle powers_222 (lit≤ tt) };

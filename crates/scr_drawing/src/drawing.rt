@@ -20,20 +20,12 @@ use std::alloc::AllocError;
 /// Adds the drawing of the puzzle of an event: an inline SVG of class `picture` with the attributes `data-event`, the
 /// event's id, and `data-letters`, the picture's letters. It has a width in millimetres, which a style may change, and
 /// needs nothing else of the page.
+#[tactic(auto, using(crate::proofs::Free::adds_more))]
 pub fn draw(page: &mut String, event: Event, picture: &Picture) -> Result<(), AllocError>
     ensures { OnOk result
         (Adds (string_bytes page.old) (string_bytes page.new) (picture_mark event picture.now ∷ [])) }
 {
-    draw_letters(page, event, picture.letters())
-}
-
-/// The same of the letters.
-#[tactic(auto, using(crate::proofs::Free::adds_more))]
-fn draw_letters(page: &mut String, event: Event, letters: &str) -> Result<(), AllocError>
-    requires { HasNoLineFeed letters.now }
-    ensures { OnOk result
-        (Adds (string_bytes page.old) (string_bytes page.new) (picture_mark event letters.now ∷ [])) }
-{
+    let letters = picture.letters();
     let plan = Plan::of(event);
     let style = plan.style();
     begin(page, event, letters, style)?;
@@ -128,7 +120,17 @@ fn add_colour(
         return Ok(());
     }
     write_parts(text, plan, letters, colour, Some(ink.1));
-    add_marks(page, style, ink, text.as_str())
+    leaf(
+        page,
+        "path",
+        &[
+            ("stroke", ink.2),
+            ("stroke-width", style.mark_line),
+            ("stroke-linecap", "round"),
+            ("d", text.as_str()),
+        ],
+        "",
+    )
 }
 
 /// Writes the parts of a colour into an emptied text: their outlines, or a mark in each.
@@ -166,24 +168,4 @@ fn add_path(page: &mut String, style: &Style, ink: &Ink, outlines: &str) -> Resu
     } else {
         leaf(page, "path", &[("fill", ink.0), ("d", outlines)], "")
     }
-}
-
-/// Adds the path of marks of a colour.
-fn add_marks(page: &mut String, style: &Style, ink: &Ink, marks: &str) -> Result<(), AllocError>
-    requires style { is_style style.now ≡ true }
-    requires ink { is_ink ink.now ≡ true }
-    requires marks { HasNoLineFeed marks.now }
-    ensures { OnOk result (Adds (string_bytes page.old) (string_bytes page.new) []) }
-{
-    leaf(
-        page,
-        "path",
-        &[
-            ("stroke", ink.2),
-            ("stroke-width", style.mark_line),
-            ("stroke-linecap", "round"),
-            ("d", marks),
-        ],
-        "",
-    )
 }

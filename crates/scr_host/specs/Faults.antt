@@ -1,5 +1,5 @@
 -- What goes wrong in a run of a program that reads one input: the line that tells it, and the exit code.
-use Rattle.std.specs.Prelude.{ℕ, List, ◌++◌, codes, Result, Ok, Err}
+use Rattle.std.specs.Prelude.{ℕ, List, ◌++◌, codes}
 use Rattle.scr_host.specs.declared.fault.Fault.{Fault}
 use Rattle.scr_host.specs.declared.fault.Fault.TheVariants as fault
 

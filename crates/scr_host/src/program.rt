@@ -1,10 +1,10 @@
 //! Programs that read one input, over the system's words and streams.
 
-ghost use Rattle.std.specs.Prelude.{◌≡◌, map};
+ghost use Rattle.std.specs.Prelude.{map};
 ghost use Rattle.std.specs.Result.{result_map_both};
 ghost use Rattle.scr_outside.specs.Change.{change_of, intake_of};
 ghost use Rattle.scr_host.specs.Exit.{EndsOnStreams, IsExitCode};
-ghost use Rattle.scr_host.specs.Runs.{exit_code_of, IsRun, EndsRun};
+ghost use Rattle.scr_host.specs.Runs.{IsRun, EndsRun};
 
 use crate::exit::Exit;
 use crate::fault::{Fault, OwnFault};
@@ -85,21 +85,14 @@ pub fn run_on_words<'w, P: Program, S: Source, O: Sink, E: Sink>(
         (change_of O.held O.faults out.old out.new) (change_of E.held E.faults err.old err.new) }
 {
     match words {
-        Ok(words) => exit_code(run(program, alloc, words, source, out, err)),
+        Ok(words) => match run(program, alloc, words, source, out, err) {
+            Ok(()) => 0,
+            Err(why) => why.code(),
+        },
         Err(why) => {
             let wanting: Fault<P::Own> = Fault::NoMemory;
             end_without_words(why, wanting.code(), wanting.message().as_str(), err)
         }
-    }
-}
-
-/// The exit code of a run that ended so.
-fn exit_code<Own: OwnFault>(ended: Result<(), Fault<Own>>) -> u8
-    ensures { result ≡ exit_code_of Own.telling ended }
-{
-    match ended {
-        Ok(()) => 0,
-        Err(fault) => fault.code(),
     }
 }
 

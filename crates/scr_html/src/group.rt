@@ -43,7 +43,7 @@ pub fn write_group(
         pictures,
     };
     if has_page_each(group.event()) {
-        write_attempts(page, group, &look)
+        write_attempts(page, group, group.scrambles(), 0, &look)
     } else {
         write_page(page, group, &look)
     }
@@ -116,18 +116,9 @@ fn label_of(group: &Group<'_>, place: u32) -> &'static str
     label(group.event(), place)
 }
 
-/// Adds a page for each scramble of a group, with room for a solution.
-fn write_attempts(page: &mut String, group: &Group<'_>, look: &Look<'_>) -> Result<(), AllocError>
-    requires { HasNoControl look.now.competition.now }
-    ensures { OnOk result (Adds (string_bytes page.old) (string_bytes page.new)
-        (flat_map (attempt_marks look.now.pictures look.now.competition.now group.now) (labelled group.now))) }
-{
-    write_attempts_from(page, group, group.scrambles(), 0, look)
-}
-
-/// Adds a page for each of these scrambles, which are the last of a group, from the one at a place on. It calls itself
-/// once for each.
-fn write_attempts_from(
+/// Adds a page with room for a solution for each of these scrambles, which are the last of a group, from the one at a
+/// place on. It calls itself once for each.
+fn write_attempts(
     page: &mut String,
     group: &Group<'_>,
     scrambles: &[Scramble],
@@ -145,7 +136,7 @@ fn write_attempts_from(
         [scramble, rest @ ..] => {
             let label = label_of(group, place);
             write_attempt(page, group, label, scramble, look)?;
-            write_attempts_from(page, group, rest, place + 1, look)?;
+            write_attempts(page, group, rest, place + 1, look)?;
             Ok(())
         }
     }
@@ -190,14 +181,8 @@ fn write_numbers(page: &mut String) -> Result<(), AllocError>
     ensures { OnOk result (Adds (string_bytes page.old) (string_bytes page.new) []) }
 {
     for number in 1..=FIELDS {
-        write_number(page, number)?;
+        let text = decimal(number);
+        plain(page, "li", text.as_str())?;
     }
     Ok(())
-}
-
-fn write_number(page: &mut String, number: u32) -> Result<(), AllocError>
-    ensures { OnOk result (Adds (string_bytes page.old) (string_bytes page.new) []) }
-{
-    let text = decimal(number);
-    plain(page, "li", text.as_str())
 }

@@ -15,6 +15,9 @@ const PAGE_HEIGHT: u32 = 6300;
 /// The room beside a scramble's label for its words and its picture, in tenths of a millimetre.
 const ROW_WIDTH: u32 = 1620;
 
+/// A millimetre, in thousandths of a point.
+const POINTS: u32 = 2835;
+
 /// What the line above a scramble and the margins about it take of its height, in tenths of a point.
 const MARGINS: u32 = 80;
 
@@ -68,13 +71,16 @@ impl Sizes {
         };
         let slot = PAGE_HEIGHT / slots;
         let height = slot.saturating_sub(MARGINS);
+        let width = (ROW_WIDTH - picture) * POINTS / 1000;
         let letters = letters_of(
             height * 100 / (rows * LEAST_ROW),
-            points(ROW_WIDTH - picture) * 1000 / (columns * LETTER_WIDTH),
+            width * 1000 / (columns * LETTER_WIDTH),
         );
         Sizes {
             letters,
-            row: row_of(height / rows, letters),
+            row: (height / rows)
+                .min(letters * MOST_ROW / 100)
+                .max(letters * LEAST_ROW / 100),
             slot: slot.min(MOST_HEIGHT),
             picture,
         }
@@ -131,14 +137,6 @@ fn push_text(text: &mut ArrayString<STYLE_ROOM>, more: &str)
     text.push_str(more);
 }
 
-/// Millimetres as points, both in tenths.
-fn points(millimetres: u32) -> u32
-    requires { millimetres ≤ 1700 }
-    ensures { result ≤ 5000 }
-{
-    millimetres * 2835 / 1000
-}
-
 /// The size of letters of which the first are the largest that fit by height, and the second by width.
 fn letters_of(by_height: u32, by_width: u32) -> u32
     ensures { (1 ≤ result) × (result ≤ LARGEST) }
@@ -149,14 +147,6 @@ fn letters_of(by_height: u32, by_width: u32) -> u32
         by_height.min(LARGEST)
     };
     by_width.min(most).max(1)
-}
-
-/// The height of a row of letters of a size, where it may be so high. All are in tenths of a point.
-fn row_of(room: u32, letters: u32) -> u32
-    requires { letters ≤ LARGEST }
-{
-    room.min(letters * MOST_ROW / 100)
-        .max(letters * LEAST_ROW / 100)
 }
 
 /// The most rows of a scramble of a group, and the most letters in a row.

@@ -4,10 +4,11 @@ ghost use Rattle.std.specs.Prelude.{◌≡◌, [], ◌∷◌, OnOk, codes, strin
 ghost use Rattle.scr_markup.specs.Tokens.{Adds, HasNoLineFeed};
 ghost use Rattle.scr_html.specs.Pages.{told, picture_marks, slot_marks};
 
-use crate::tokens::{begin, begin_marked, end, marked, plain, valid};
+use crate::tokens::{begin, end, marked, plain, valid};
 use crate::words::write_words;
 use scr_drawing::draw;
 use scr_layout::{Group, tag};
+use scr_markup::open;
 use scr_notation::Scramble;
 use scr_picture::Picture;
 use std::alloc::AllocError;
@@ -24,7 +25,7 @@ pub(crate) fn write_slot(
     ensures { OnOk result
         (Adds (string_bytes page.old) (string_bytes page.new) (slot_marks pictures (label.now, scramble.now))) }
 {
-    begin_marked(page, "article", "scramble")?;
+    open(page, "article", &[("class", "scramble")])?;
     write_label(page, group, label)?;
     write_words(page, scramble)?;
     write_picture(page, scramble, pictures)?;
@@ -41,18 +42,11 @@ fn write_label(page: &mut String, group: &Group<'_>, label: &str) -> Result<(), 
     begin(page, "header")?;
     marked(page, "b", "label", label)?;
     plain(page, "small", group.event().name())?;
-    write_tag(page, group)?;
-    end(page, "header")?;
-    Ok(())
-}
-
-/// Adds which round and group it is of.
-fn write_tag(page: &mut String, group: &Group<'_>) -> Result<(), AllocError>
-    ensures { OnOk result (Adds (string_bytes page.old) (string_bytes page.new) []) }
-{
     valid(group);
     let text = tag(group);
-    plain(page, "small", text.as_str())
+    plain(page, "small", text.as_str())?;
+    end(page, "header")?;
+    Ok(())
 }
 
 /// Adds the picture of a scramble where pictures are asked for.

@@ -1,6 +1,6 @@
 //! The tokens that pages are made of.
 
-ghost use Rattle.std.specs.Prelude.{◌≡◌, true, [], ◌∷◌, OnOk, codes, string_bytes};
+ghost use Rattle.std.specs.Prelude.{◌≡◌, true, [], ◌∷◌, OnOk, string_bytes};
 ghost use Rattle.scr_markup.specs.Tokens.{Adds, is_name, HasNoLineFeed};
 ghost use Rattle.scr_layout.specs.Group.{IsGroup};
 ghost use Rattle.scr_html.specs.Pages.{told};
@@ -15,15 +15,6 @@ pub(crate) fn begin(page: &mut String, name: &str) -> Result<(), AllocError>
     ensures { OnOk result (Adds (string_bytes page.old) (string_bytes page.new) []) }
 {
     open(page, name, &[])
-}
-
-/// Begins an element of a class, which has no text of its own.
-pub(crate) fn begin_marked(page: &mut String, name: &str, class: &str) -> Result<(), AllocError>
-    requires name { is_name name.now ≡ true }
-    requires class { HasNoLineFeed class.now }
-    ensures { OnOk result (Adds (string_bytes page.old) (string_bytes page.new) (told class.now [] ∷ [])) }
-{
-    open(page, name, &[("class", class)])
 }
 
 /// Adds an element with a text, which promises nothing.
@@ -48,15 +39,6 @@ pub(crate) fn marked(
     ensures { OnOk result (Adds (string_bytes page.old) (string_bytes page.new) (told class.now text.now ∷ [])) }
 {
     leaf(page, name, &[("class", class)], text)
-}
-
-/// Adds a word in its row, so many letters from its begin.
-pub(crate) fn word(page: &mut String, left: &str, text: &str) -> Result<(), AllocError>
-    requires left { HasNoLineFeed left.now }
-    requires text { HasNoLineFeed text.now }
-    ensures { OnOk result (Adds (string_bytes page.old) (string_bytes page.new) (told (codes "word") text.now ∷ [])) }
-{
-    leaf(page, "span", &[("class", "word"), ("style", left)], text)
 }
 
 /// Ends an element.

@@ -7,9 +7,10 @@ ghost use Rattle.scr_notation.specs.Turns.{permits};
 ghost use Rattle.scr_notation.specs.Spelling.{spelling};
 ghost use Rattle.scr_html.specs.Pages.{told, word_marks};
 
-use crate::tokens::{begin, end, word};
+use crate::tokens::{begin, end};
 use arrayvec::ArrayString;
 use scr_layout::{Place, places};
+use scr_markup::leaf;
 use scr_notation::{Event, Scramble, Turn, print, push_turn};
 use scr_text::decimal;
 use std::alloc::AllocError;
@@ -81,7 +82,12 @@ fn write_word(page: &mut String, event: Event, turn: Turn, column: u8) -> Result
     push_turn(&mut one, turn);
     let text = print(&one);
     let left = left_of(column);
-    word(page, left.as_str(), text.as_str())
+    leaf(
+        page,
+        "span",
+        &[("class", "word"), ("style", left.as_str())],
+        text.as_str(),
+    )
 }
 
 /// The style of what stands so many letters from the begin of its row.

@@ -1,6 +1,6 @@
 //! A group of a sheet.
 
-ghost use Rattle.std.specs.Prelude.{◌≡◌, ◌≤◌, length};
+ghost use Rattle.std.specs.Prelude.{◌≡◌};
 
 use arrayvec::ArrayString;
 use scr_list::NAME_ROOM;
@@ -29,7 +29,7 @@ pub struct GroupPlace {
 /// A group of a sheet: where it stands, and its scrambles.
 #[derive(Drop)]
 pub struct Group<'a> {
-    place: GroupPlace,
+    pub(crate) place: GroupPlace,
     scrambles: &'a [Scramble],
 }
 
@@ -74,45 +74,12 @@ impl<'a> Group<'a> {
         self.place.sheet_round
     }
 
-    /// Which of the rounds of its event that is, from 1.
-    pub fn event_round(&self) -> u32
-        ensures value { result ≡ self.now.event_round }
-        ensures valid { IsGroup self.now }
-    {
-        self.place.event_round
-    }
-
-    /// How many rounds of its event the sheet has.
-    pub fn event_rounds(&self) -> u32
-        ensures value { result ≡ self.now.event_rounds }
-        ensures valid { IsGroup self.now }
-    {
-        self.place.event_rounds
-    }
-
     /// The number of the group in its round, from 0.
     pub fn number(&self) -> u32
         ensures value { result ≡ self.now.number }
         ensures valid { IsGroup self.now }
     {
         self.place.number
-    }
-
-    /// How many groups its round has.
-    pub fn groups(&self) -> u32
-        ensures value { result ≡ self.now.groups }
-        ensures valid { IsGroup self.now }
-    {
-        self.place.groups
-    }
-
-    /// The name of its round, which may be empty.
-    pub fn name(&self) -> &str
-        ensures value { result.now ≡ self.now.name }
-        ensures short { length result.now ≤ NAME_ROOM }
-        ensures valid { IsGroup self.now }
-    {
-        self.place.name.as_str()
     }
 
     /// Its scrambles, one for each slot, the two extra ones last.

@@ -1,24 +1,17 @@
 //! How puzzles are held.
 
 ghost use Rattle.std.specs.Prelude.{◌≡◌};
-ghost use Rattle.scr_layout.specs.Holding.{held_as, held_of};
+ghost use Rattle.scr_layout.specs.Holding.{held_of};
 
 use scr_notation::{Event, Puzzle};
 
 /// How the puzzle of an event is held when its scramble begins (WCA Regulations, article 4d), in lines of at most 72
 /// letters, with a line feed between two.
+#[tactic(auto, unfolding(crate::specs::Holding::held_as))]
 pub fn held(event: Event) -> &'static str
     ensures { result.now ≡ held_of event }
 {
-    held_as(event.puzzle())
-}
-
-/// How this puzzle is held.
-#[tactic(auto, unfolding(crate::specs::Holding::held_as))]
-fn held_as(puzzle: Puzzle) -> &'static str
-    ensures { result.now ≡ held_as puzzle }
-{
-    match puzzle {
+    match event.puzzle() {
         Puzzle::Cube222 | Puzzle::Cube333 | Puzzle::Cube555 | Puzzle::Cube666 | Puzzle::Cube777 =>
             "Hold the solved cube with white up and green in front.",
         Puzzle::Held333 => {

@@ -104,20 +104,10 @@ fn place_of_cell(puzzle: Puzzle, cells: u32, cell: u32, indent: u32) -> Place
     } else {
         0
     };
-    let before = scaled(column, width);
     Place {
         row: (row + gaps) as u8,
-        column: (before + wide + indent) as u8,
+        column: (column * width + wide + indent) as u8,
     }
-}
-
-/// So many columns of this width.
-fn scaled(columns: u32, width: u32) -> u32
-    requires columns { columns ≤ 15 }
-    requires width { width ≤ 12 }
-    ensures { result ≤ 180 }
-{
-    columns * width
 }
 
 /// The columns of a puzzle's rows.

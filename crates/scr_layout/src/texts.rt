@@ -1,6 +1,6 @@
 //! The texts of a group's pages.
 
-ghost use Rattle.std.specs.Prelude.{◌≡◌, ◌+◌, ◌<◌, ◌≤◌, ◌∷◌, ◌++◌, [], Some, codes, length, slice_get};
+ghost use Rattle.std.specs.Prelude.{◌≡◌, ◌+◌, ◌<◌, ◌≤◌, ◌++◌, Some, length, slice_get};
 ghost use Rattle.std.specs.Fmt.{decimal};
 ghost use Rattle.arrayvec.specs.ArrayString.{array_string_len};
 ghost use Rattle.scr_notation.specs.Event.{per_group_of};
@@ -23,7 +23,7 @@ pub fn title(group: &Group<'_>) -> ArrayString<TEXT_ROOM>
     text.push_str(", ");
     push_letter(&mut text, group);
     text.push_str(" of ");
-    text.push_str(decimal(group.groups()).as_str());
+    text.push_str(decimal(group.place.groups).as_str());
     text
 }
 
@@ -34,7 +34,7 @@ pub fn round_line(group: &Group<'_>) -> ArrayString<TEXT_ROOM>
     let mut text = ArrayString::new();
     text.push_str("Round ");
     push_place(&mut text, group);
-    let name = group.name();
+    let name = group.place.name.as_str();
     if !name.is_empty() {
         text.push_str(": ");
         text.push_str(name);
@@ -60,9 +60,9 @@ fn push_place(text: &mut ArrayString<TEXT_ROOM>, group: &Group<'_>)
     ensures bytes { text.new.bytes ≡ text.old.bytes ++ place_of group.now }
     ensures short { array_string_len text.new ≤ array_string_len text.old + 24 }
 {
-    text.push_str(decimal(group.event_round()).as_str());
+    text.push_str(decimal(group.place.event_round).as_str());
     text.push_str(" of ");
-    text.push_str(decimal(group.event_rounds()).as_str());
+    text.push_str(decimal(group.place.event_rounds).as_str());
 }
 
 /// Adds its letter.

@@ -1,6 +1,6 @@
 //! The words of a scramble's text.
 
-ghost use Rattle.std.specs.Prelude.{◌≡◌, ◌∷◌, ◌≤◌, All, IsTrue, List, length};
+ghost use Rattle.std.specs.Prelude.{◌≡◌, ◌∷◌, All, IsTrue, List};
 ghost use Rattle.scr_notation.specs.declared.event.Event.{Event};
 ghost use Rattle.scr_notation.specs.declared.turn.Turn.{Turn};
 ghost use Rattle.scr_notation.specs.Spelling.{spelling, text_of};

@@ -1,10 +1,9 @@
 //! The grammar of lists.
 
-ghost use Rattle.std.specs.Prelude.{◌≡◌, ◌≢◌, ◌≤◌, length, option_copied, option_map, IfOk, IfErr, IfSome, Ok, is_none, if◌then◌else◌};
+ghost use Rattle.std.specs.Prelude.{◌≡◌, ◌≢◌, ◌≤◌, length, option_copied, option_map, IfOk, IfErr, IfSome, Ok, if◌then◌else◌};
 ghost use Rattle.scr_list.specs.declared.fault.ListFault.TheVariants.{Read};
-ghost use Rattle.scr_text.specs.Numbers.{number_between};
 ghost use Rattle.scr_text.specs.Parts.{more_lines};
-ghost use Rattle.scr_list.specs.Rounds.{rounds_of, rounds_of_lines, round_of_line, named_round, placed_round};
+ghost use Rattle.scr_list.specs.Rounds.{rounds_of, rounds_of_lines, round_of_line, named_round};
 ghost use Rattle.scr_list.specs.Rounds.{round_name, least_of};
 ghost use Rattle.scr_list.specs.declared.fault.ListCause.TheVariants.{Words};
 ghost use Rattle.scr_list.specs.RoundLists.{IsRounds};
@@ -12,7 +11,7 @@ ghost use Rattle.scr_list.specs.Reading.{listed};
 
 use crate::event::event_named;
 use crate::fault::{ListCause, ListFault};
-use crate::name::{NAME_ROOM, name_in, parted};
+use crate::name::{NAME_ROOM, name_of, parted, trimmed};
 use crate::round::Round;
 use crate::version::{ROUND_ROOM, Version, version_of};
 use arrayvec::{ArrayString, ArrayVec};
@@ -77,7 +76,10 @@ fn round_of_line(version: Version, line: &[u8], before: usize) -> Result<Option<
 {
     let (told, name) = parted(version.takes_names, line);
     let Some(event) = word_at(told, 0) else {
-        return wordless(name);
+        return match name {
+            None => Ok(None),
+            Some(_) => Err(ListCause::Words),
+        };
     };
     let Some(groups) = word_at(told, 1) else {
         return Err(ListCause::Words);
@@ -87,16 +89,10 @@ fn round_of_line(version: Version, line: &[u8], before: usize) -> Result<Option<
         return Err(ListCause::Words);
     }
     let round = named(event, groups, least, name)?;
-    placed(version, before, round)
-}
-
-/// What a line without words names: no round, unless a name follows.
-fn wordless(name: Option<&[u8]>) -> Result<Option<Round>, ListCause>
-    ensures { result ≡ (if is_none (option_copied name.entry) then Ok None else Err Words) }
-{
-    match name {
-        None => Ok(None),
-        Some(_) => Err(ListCause::Words),
+    if before < version.most_rounds {
+        Ok(Some(round))
+    } else {
+        Err(ListCause::Rounds)
     }
 }
 
@@ -113,34 +109,15 @@ fn named(
         return Err(ListCause::No444);
     }
     let event = event_named(event).ok_or(ListCause::Event)?;
-    let groups = group_count(groups).ok_or(ListCause::Groups)?;
+    let groups = number_within(groups, 1, 26).ok_or(ListCause::Groups)?;
     let least = minimum(event.minima(), least).ok_or(ListCause::Minimum)?;
     let name = round_name(name).ok_or(ListCause::Name)?;
     Ok(Round {
         event,
-        groups,
+        groups: groups as u8,
         least,
         name,
     })
-}
-
-/// A round, where fewer rounds than a list of this version may have stand before it.
-fn placed(version: Version, before: usize, round: Round) -> Result<Option<Round>, ListCause>
-    ensures { result ≡ placed_round version.most_rounds before (Ok round) }
-{
-    if before < version.most_rounds {
-        Ok(Some(round))
-    } else {
-        Err(ListCause::Rounds)
-    }
-}
-
-/// The number of groups that a word says.
-fn group_count(word: &[u8]) -> Option<u8>
-    ensures { result ≡ number_between 1 26 word.now }
-{
-    let count = number_within(word, 1, 26)?;
-    Some(count as u8)
 }
 
 /// The minimum of a round: what its third word says, or the usual one where it has none.
@@ -158,12 +135,13 @@ fn minimum(minima: Option<Minima>, word: Option<&[u8]>) -> Option<u8>
     }
 }
 
-/// The name of a round: what follows its line's colon, or none where it has no colon.
+/// The name of a round: what follows its line's colon, without the blanks at both ends, or none where it has no colon.
+#[tactic(auto, unfolding(crate::specs::Names::name_in))]
 fn round_name(text: Option<&[u8]>) -> Option<ArrayString<NAME_ROOM>>
     ensures { option_map (λ name. name.bytes) result ≡ round_name (option_copied text.entry) }
 {
     match text {
         None => Some(ArrayString::new()),
-        Some(text) => name_in(text),
+        Some(text) => name_of(trimmed(text)),
     }
 }

@@ -3,7 +3,7 @@
 ghost use Rattle.std.specs.Prelude.{◌≡◌, ◌-◌, ◌<◌, ◌≤◌, None, Some, if◌then◌else◌, length, position, option_map, option_copied, IfSome};
 ghost use Rattle.std.specs.List.{list_all, prefix_len, suffix_len};
 ghost use Rattle.scr_text.specs.Lines.{is_blank};
-ghost use Rattle.scr_list.specs.Names.{is_colon, told_part, name_part, trimmed, is_name_byte, is_name, name_in};
+ghost use Rattle.scr_list.specs.Names.{is_colon, told_part, name_part, trimmed, is_name_byte, is_name};
 
 use arrayvec::ArrayString;
 use scr_text::is_blank;
@@ -33,13 +33,6 @@ fn first_colon(line: &[u8]) -> Option<usize>
     line.iter().position(|byte| *byte == b':')
 }
 
-/// The name that a text is, without the blanks at both ends. `None` exactly where it is none.
-pub(crate) fn name_in(text: &[u8]) -> Option<ArrayString<NAME_ROOM>>
-    ensures { option_map (λ name. name.bytes) result ≡ name_in text.now }
-{
-    name_of(trimmed(text))
-}
-
 /// A text as a name: 1 to 40 bytes from the space to the tilde. `None` exactly where it is none.
 pub fn name_of(text: &[u8]) -> Option<ArrayString<NAME_ROOM>>
     ensures { option_map (λ name. name.bytes) result ≡ (if is_name text.now then Some text.now else None) }
@@ -58,7 +51,7 @@ pub fn name_of(text: &[u8]) -> Option<ArrayString<NAME_ROOM>>
 }
 
 /// A text without the blanks at both ends.
-fn trimmed(text: &[u8]) -> &[u8]
+pub(crate) fn trimmed(text: &[u8]) -> &[u8]
     ensures { result.now ≡ trimmed text.now }
 {
     let text = &text[..end_of(text)];
@@ -98,11 +91,5 @@ fn is_name(text: &[u8]) -> bool
 fn are_name_bytes(text: &[u8]) -> bool
     ensures { result ≡ list_all is_name_byte text.now }
 {
-    text.iter().all(|byte| is_name_byte(*byte))
-}
-
-fn is_name_byte(byte: u8) -> bool
-    ensures { result ≡ is_name_byte byte }
-{
-    32 <= byte && byte <= 126
+    text.iter().all(|byte| 32 <= *byte && *byte <= 126)
 }

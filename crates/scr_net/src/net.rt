@@ -127,20 +127,8 @@ impl<const SIDE: usize> Net<SIDE> {
                 requires sticker { IsSticker (SIDE - 1) sticker }
                 ensures value { result ≡ letter_at SIDE self.entry.now (brought_from (SIDE - 1) face depth sticker) }
                 ensures below { result < 6 }
-            { self.brought(face, depth, sticker) },
+            { self.letter_at(brought_from(SIDE - 1, face, depth, sticker)) },
         )
-    }
-
-    /// The letter that a quarter turn of `depth` layers at a face brings to a sticker's place.
-    #[inline(always)]
-    fn brought(&self, face: u8, depth: usize, sticker: Sticker) -> u8
-        requires side { IsSide SIDE }
-        requires face { face < 6 }
-        requires sticker { IsSticker (SIDE - 1) sticker }
-        ensures value { result ≡ letter_at SIDE self.now (brought_from (SIDE - 1) face depth sticker) }
-        ensures below { result < 6 }
-    {
-        self.letter_at(brought_from(SIDE - 1, face, depth, sticker))
     }
 
     /// The net after three quarter turns of `depth` layers at a face, which are one the other way.
@@ -173,20 +161,8 @@ impl<const SIDE: usize> Net<SIDE> {
                 requires sticker { IsSticker (SIDE - 1) sticker }
                 ensures value { result ≡ letter_at SIDE self.entry.now (carried_sticker (SIDE - 1) face depth sticker) }
                 ensures below { result < 6 }
-            { self.brought_back(face, depth, sticker) },
+            { self.letter_at(carried_sticker(SIDE - 1, face, depth, sticker)) },
         )
-    }
-
-    /// The letter that a quarter turn of `depth` layers at a face the other way brings to a sticker's place.
-    #[inline(always)]
-    fn brought_back(&self, face: u8, depth: usize, sticker: Sticker) -> u8
-        requires side { IsSide SIDE }
-        requires face { face < 6 }
-        requires sticker { IsSticker (SIDE - 1) sticker }
-        ensures value { result ≡ letter_at SIDE self.now (carried_sticker (SIDE - 1) face depth sticker) }
-        ensures below { result < 6 }
-    {
-        self.letter_at(carried_sticker(SIDE - 1, face, depth, sticker))
     }
 
     /// The letter at a sticker.
@@ -208,7 +184,11 @@ impl<const SIDE: usize> Net<SIDE> {
         requires { IsSide SIDE }
         ensures { result ≡ play (net_after SIDE) self.now scramble.now.turns }
     {
-        played(*self, scramble.turns())
+        let mut net = *self;
+        for turn in scramble.turns() {
+            net = net.after(*turn)?;
+        }
+        Some(net)
     }
 
     /// The net after a turn that some event has, or `None` where it isn't one of layers at a face, or is of all layers.
@@ -240,17 +220,4 @@ impl<const SIDE: usize> Net<SIDE> {
         let rows = &faces[usize::from(face)][..];
         &rows[row][..]
     }
-}
-
-/// The net after these turns, each of which some event has.
-fn played<const SIDE: usize>(start: Net<SIDE>, turns: &[Turn]) -> Option<Net<SIDE>>
-    requires side { IsSide SIDE }
-    requires permitted { All (λ turn. (event : TurnsOf) × IsTrue (permits event turn)) turns.now }
-    ensures { result ≡ play (net_after SIDE) start.entry turns.now }
-{
-    let mut net = start;
-    for turn in turns {
-        net = net.after(*turn)?;
-    }
-    Some(net)
 }

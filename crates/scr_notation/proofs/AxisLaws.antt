@@ -13,6 +13,7 @@ use Rattle.scr_notation.specs.TurnNumbers.{axis_turn_at}
 use Rattle.scr_notation.specs.Turning.{opposite, are_alike, turn_merging}
 use Rattle.scr_notation.specs.AxisLetters.{thirds_of, letters_about_axes}
 use Rattle.scr_notation.proofs.Below.{and_first, and_second}
+use Rattle.scr_notation.proofs.NumberLaws.{axis_at, tip_at}
 
 -- a letter that is a power is a large turn or one of a tip, by one or two thirds
 pub record IsThirdsOf (t : Turn) (p : Power) : Type 0 where
@@ -50,14 +51,9 @@ tip_read tip amount p e =
     subst P read.1 (record { is = inr (tip, range.there, refl, refl); some = range.some; few = range.few })
 
 pub IsThirdsOf-read : (t : Turn) (p : Power) → thirds_of t ≡ Some p → IsThirdsOf t p
-IsThirdsOf-read (Face face depth amount) p e = absurd (cc)
 IsThirdsOf-read (Axis axis amount) p e = axis_read axis amount p e
 IsThirdsOf-read (Tip tip amount) p e = tip_read tip amount p e
-IsThirdsOf-read (Layers top bottom) p e = absurd (cc)
-IsThirdsOf-read Twist p e = absurd (cc)
-IsThirdsOf-read (Pins pins amount) p e = absurd (cc)
-IsThirdsOf-read Over p e = absurd (cc)
-IsThirdsOf-read (Wide letter plus) p e = absurd (cc)
+IsThirdsOf-read _ p e = absurd (cc)
 
 -- and each such turn is
 pub thirds_of-axis : (axis amount : ℕ) → axis < 4 → 0 < amount → amount < 3
@@ -83,14 +79,9 @@ opposite_by t p h =
 
 -- no two of them are merged
 unlike : (t u : Turn) (p : Power) → thirds_of t ≡ Some p → IsTrue (are_alike t u) → ⊥
-unlike (Face face depth amount) u p e alike = cc
 unlike (Axis axis amount) u p e alike = cc
 unlike (Tip tip amount) u p e alike = cc
-unlike (Layers top bottom) u p e alike = cc
-unlike Twist u p e alike = cc
-unlike (Pins pins amount) u p e alike = cc
-unlike Over u p e alike = cc
-unlike (Wide letter plus) u p e alike = cc
+unlike _ u p e alike = absurd (cc)
 
 pub axis_powers : ArePowers 3 thirds_of opposite turn_merging
 axis_powers = record {
@@ -129,29 +120,16 @@ thirds_of-past n l =
     ap thirds_of (axis_turn_at-high n (omega arith))
     ∙ ap (λ b. cond (b && is_amount 3 amount) (Some (record { generator = 4 + (n - 8) / 2; exponent = amount })) None) (le-ltb ((n - 8) / 2) 4 (omega arith))
 
--- the numbers of an axis' and of a tip's turns
-pub axis_turn_at-axis : (n axis amount : ℕ) → n ≡ 2 * axis + (amount - 1) → axis < 4 → 0 < amount → amount < 3
-    → axis_turn_at n ≡ Axis axis amount
-axis_turn_at-axis n axis amount number there some few =
-    let which : n / 2 ≡ axis = omega arith in
-    let much : n % 2 + 1 ≡ amount = omega arith in
-    axis_turn_at-low n (omega arith) ∙ ap (λ g. Axis g (n % 2 + 1)) which ∙ ap (λ e. Axis axis e) much
-
-pub axis_turn_at-tip : (n tip amount : ℕ) → n ≡ 8 + 2 * tip + (amount - 1) → 0 < amount → amount < 3
-    → axis_turn_at n ≡ Tip tip amount
-axis_turn_at-tip n tip amount number some few =
-    let which : (n - 8) / 2 ≡ tip = omega arith in
-    let much : n % 2 + 1 ≡ amount = omega arith in
-    axis_turn_at-high n (omega arith) ∙ ap (λ g. Tip g (n % 2 + 1)) which ∙ ap (λ e. Tip tip e) much
-
 -- a power's letter is that of its number
 pub axis_turn_at-power : (t : Turn) (p : Power) → thirds_of t ≡ Some p
     → axis_turn_at (2 * p.generator + (p.exponent - 1)) ≡ t
 axis_turn_at-power t p e =
     let h = IsThirdsOf-read t p e in
     elim h.is [
-      | inl a ↦ axis_turn_at-axis _ p.generator p.exponent refl a.0 h.some h.few ∙ sym a.1
-      | inr b ↦ axis_turn_at-tip _ b.0 p.exponent (omega (arith, b.2)) h.some h.few ∙ sym b.3
+      | inl a ↦ axis_at p.generator p.exponent (record { axis_below = a.0; some_third = h.some; no_whole = h.few }) ∙ sym a.1
+      | inr b ↦
+          let same : 2 * p.generator + (p.exponent - 1) ≡ 8 + 2 * b.0 + (p.exponent - 1) = omega (arith, b.2) in
+          ap axis_turn_at same ∙ tip_at b.0 p.exponent (record { axis_below = b.1; some_third = h.some; no_whole = h.few }) ∙ sym b.3
     ]
 
 letter-low : (p : Power) → p.generator < 4 → letters_about_axes.letter_of p ≡ Axis p.generator p.exponent

@@ -36,13 +36,7 @@ face_read face depth amount p e =
 
 pub IsQuartersOf-read : (t : Turn) (p : Power) → quarters_of t ≡ Some p → IsQuartersOf t p
 IsQuartersOf-read (Face face depth amount) p e = face_read face depth amount p e
-IsQuartersOf-read (Axis axis amount) p e = absurd (cc)
-IsQuartersOf-read (Tip tip amount) p e = absurd (cc)
-IsQuartersOf-read (Layers top bottom) p e = absurd (cc)
-IsQuartersOf-read Twist p e = absurd (cc)
-IsQuartersOf-read (Pins pins amount) p e = absurd (cc)
-IsQuartersOf-read Over p e = absurd (cc)
-IsQuartersOf-read (Wide letter plus) p e = absurd (cc)
+IsQuartersOf-read _ p e = absurd (cc)
 
 -- and each such turn is
 pub quarters_of-face : (face amount : ℕ) → 0 < amount → amount < 4

@@ -7,6 +7,7 @@ pub mod SpellingLaws
 pub mod CandidateLaws
 pub mod TextLaws
 pub mod ReadLaws
+pub mod NumberTurns
 pub mod MergingLaws
 pub mod OppositeLaws
 pub mod TidyingLaws

@@ -52,21 +52,26 @@ face_turn_of_parts near far face depth amount p =
     let low = p.near_layers in let high = p.far_layers in let six = p.face_below in let some = p.some_layer in
     let quarter = p.some_quarter in let whole = p.no_whole in grind (arith, nat_tests)
 
+face_at : (near far face depth amount : ℕ) → IsFaceTurn near far face depth amount
+    → face_turn_at (18 * (depth - 1) + 3 * face + (amount - 1)) ≡ Face face depth amount
+unfolding face_turn_at
+face_at near far f d a p =
+    let n : ℕ = 18 * (d - 1) + 3 * f + (a - 1) in
+    let face : n / 3 % 6 ≡ f = omega (arith, p.face_below, p.some_layer, p.some_quarter, p.no_whole) in
+    let depth : n / 18 + 1 ≡ d = omega (arith, p.face_below, p.some_layer, p.some_quarter, p.no_whole) in
+    let amount : n % 3 + 1 ≡ a = omega (arith, p.some_quarter, p.no_whole) in
+    cc
+
 face_number_below : (near far face depth amount : ℕ) → IsKind (Faces near far) → IsFaceTurn near far face depth amount
-    → (depth - 1) * 18 + (face * 3 + (amount - 1)) < 9 * (near + far)
+    → 18 * (depth - 1) + 3 * face + (amount - 1) < 9 * (near + far)
 face_number_below near far face depth amount k p =
     ⊎_elim (λ low. omega (arith, p.near_layers low)) (λ high. omega (arith, p.far_layers (omega arith))) (cases_lt face 3)
 
 face_numbered : (near far : ℕ) → IsKind (Faces near far) → (t : Turn) → IsTrue (is_face_turn near far t)
     → (n : ℕ) × (n < 9 * (near + far)) × (face_turn_at n ≡ t)
-unfolding face_turn_at
 face_numbered near far k (Face f d a) h =
     let p = face_turn_parts near far f d a h in
-    let n : ℕ = (d - 1) * 18 + (f * 3 + (a - 1)) in
-    let face : n / 3 % 6 ≡ f = omega arith in
-    let depth : n / 18 + 1 ≡ d = omega arith in
-    let amount : n % 3 + 1 ≡ a = omega arith in
-    (n, face_number_below near far f d a k p, cc)
+    (18 * (d - 1) + 3 * f + (a - 1), face_number_below near far f d a k p, face_at near far f d a p)
 face_numbered near far k _ h = absurd (false≢true h)
 
 face_turns : (near far n : ℕ) → IsKind (Faces near far) → n < 9 * (near + far)
@@ -101,23 +106,29 @@ pub thirds_of_parts : (axis amount : ℕ) → IsThirds axis amount → IsTrue (n
 thirds_of_parts axis amount p =
     let below = p.axis_below in let some = p.some_third in let whole = p.no_whole in grind (arith, nat_tests)
 
-axis_numbered : (a m : ℕ) → IsThirds a m → (n : ℕ) × (n < 8) × (axis_turn_at n ≡ Axis a m)
+pub axis_at : (a m : ℕ) → IsThirds a m → axis_turn_at (2 * a + (m - 1)) ≡ Axis a m
 unfolding axis_turn_at
-axis_numbered a m p =
-    let n : ℕ = a * 2 + (m - 1) in
+axis_at a m p =
+    let n : ℕ = 2 * a + (m - 1) in
     let first : nat_lt n 8 ≡ true = lt-ltb n 8 (omega (arith, p.axis_below, p.no_whole)) in
     let axis : n / 2 ≡ a = omega (arith, p.some_third, p.no_whole) in
     let amount : n % 2 + 1 ≡ m = omega (arith, p.some_third, p.no_whole) in
-    (n, omega (arith, p.axis_below, p.no_whole), ap (λ b. cond b (Axis (n / 2) (n % 2 + 1)) (Tip ((n - 8) / 2) (n % 2 + 1))) first ∙ cc)
+    ap (λ b. cond b (Axis (n / 2) (n % 2 + 1)) (Tip ((n - 8) / 2) (n % 2 + 1))) first ∙ cc
 
-tip_numbered : (a m : ℕ) → IsThirds a m → (n : ℕ) × (n < 16) × (axis_turn_at n ≡ Tip a m)
+pub tip_at : (a m : ℕ) → IsThirds a m → axis_turn_at (8 + 2 * a + (m - 1)) ≡ Tip a m
 unfolding axis_turn_at
-tip_numbered a m p =
-    let n : ℕ = a * 2 + (m + 7) in
+tip_at a m p =
+    let n : ℕ = 8 + 2 * a + (m - 1) in
     let behind : nat_lt n 8 ≡ false = grind (arith, nat_tests, p.some_third) in
     let tip : (n - 8) / 2 ≡ a = omega (arith, p.some_third, p.no_whole) in
     let amount : n % 2 + 1 ≡ m = omega (arith, p.some_third, p.no_whole) in
-    (n, omega (arith, p.axis_below, p.no_whole), ap (λ b. cond b (Axis (n / 2) (n % 2 + 1)) (Tip ((n - 8) / 2) (n % 2 + 1))) behind ∙ cc)
+    ap (λ b. cond b (Axis (n / 2) (n % 2 + 1)) (Tip ((n - 8) / 2) (n % 2 + 1))) behind ∙ cc
+
+axis_numbered : (a m : ℕ) → IsThirds a m → (n : ℕ) × (n < 8) × (axis_turn_at n ≡ Axis a m)
+axis_numbered a m p = (2 * a + (m - 1), omega (arith, p.axis_below, p.no_whole), axis_at a m p)
+
+tip_numbered : (a m : ℕ) → IsThirds a m → (n : ℕ) × (n < 16) × (axis_turn_at n ≡ Tip a m)
+tip_numbered a m p = (8 + 2 * a + (m - 1), omega (arith, p.axis_below, p.no_whole), tip_at a m p)
 
 axes_numbered : (tips : Bool) (t : Turn) → IsTrue (is_axis_turn tips t)
     → (n : ℕ) × (n < cond tips 16 8) × (axis_turn_at n ≡ t)
@@ -148,10 +159,10 @@ twelfths_place (negsuc n) t = let l : n ≤ 4 = omega (arith, ints, t.low) in (4
 
 -- the twelve times twelve stand at their numbers, but for (0,0)
 layers_at : (i j : ℕ) (top bottom : ℤ) → i < 12 → j < 12 → pos i -ℤ pos 5 ≡ top → pos j -ℤ pos 5 ≡ bottom
-    → are_still top bottom ≡ false → (n : ℕ) × (n < 144) × (layer_turn_at n ≡ Layers top bottom)
+    → are_still top bottom ≡ false → layer_turn_at (12 * i + j) ≡ Layers top bottom
 unfolding layer_turn_at
 layers_at i j top bottom l m e f some =
-    let n : ℕ = i * 12 + j in
+    let n : ℕ = 12 * i + j in
     let row : n / 12 ≡ i = omega arith in
     let column : n % 12 ≡ j = omega arith in
     let other : eqb n 65 ≡ false = ne_eqb n 65 (λ q.
@@ -160,7 +171,7 @@ layers_at i j top bottom l m e f some =
     let top_still : top ≡ pos 0 = sym e ∙ ap (λ k. pos k -ℤ pos 5) i_five in
     let bottom_still : bottom ≡ pos 0 = sym f ∙ ap (λ k. pos k -ℤ pos 5) j_five in
     false≢true (sym some ∙ ap (λ z. are_still z bottom) top_still ∙ ap (are_still (pos 0)) bottom_still)) in
-    (n, omega arith, ap (λ b. cond b Twist (Layers (pos (n / 12) -ℤ pos 5) (pos (n % 12) -ℤ pos 5))) other ∙ cc)
+    ap (λ b. cond b Twist (Layers (pos (n / 12) -ℤ pos 5) (pos (n % 12) -ℤ pos 5))) other ∙ cc
 
 layers_numbered : (t : Turn) → IsTrue (is_layer_turn t) → (n : ℕ) × (n < 144) × (layer_turn_at n ≡ t)
 unfolding layer_turn_at
@@ -168,7 +179,7 @@ layers_numbered (Layers top bottom) h =
     let p = layers_parts top bottom h in
     let i = twelfths_place top p.top_within in
     let j = twelfths_place bottom p.bottom_within in
-    layers_at i.0 j.0 top bottom i.1 j.1 i.2 j.2 p.some
+    (12 * i.0 + j.0, omega (arith, i.1, j.1), layers_at i.0 j.0 top bottom i.1 j.1 i.2 j.2 p.some)
 layers_numbered Twist h = (65, omega arith, refl)
 layers_numbered _ h = absurd (false≢true h)
 
@@ -206,18 +217,20 @@ clock_turns = refl
 
 -- ---- turns of a Megaminx
 
-wide_numbered : (t : Turn) → IsTrue (is_wide_turn t) → (n : ℕ) × (n < 6) × (wide_turn_at n ≡ t)
+wide_at : (letter : ℕ) (plus : Bool) → wide_turn_at (2 * letter + cond plus 0 1) ≡ Wide letter plus
 unfolding wide_turn_at
-wide_numbered (Wide letter true) h =
-    let l : letter < 3 = ltb-true letter 3 h in
-    let first : letter * 2 / 2 ≡ letter = omega arith in
-    let plus : eqb (letter * 2 % 2) 0 ≡ true = eq-eqb (letter * 2 % 2) 0 (omega arith) in
-    (letter * 2, omega arith, cc)
-wide_numbered (Wide letter false) h =
-    let l : letter < 3 = ltb-true letter 3 h in
-    let first : (letter * 2 + 1) / 2 ≡ letter = omega arith in
-    let minus : eqb ((letter * 2 + 1) % 2) 0 ≡ false = ne_eqb ((letter * 2 + 1) % 2) 0 (λ q. omega arith) in
-    (letter * 2 + 1, omega arith, cc)
+wide_at letter true =
+    let first : (2 * letter + 0) / 2 ≡ letter = omega arith in
+    let plus : eqb ((2 * letter + 0) % 2) 0 ≡ true = eq-eqb ((2 * letter + 0) % 2) 0 (omega arith) in
+    cc
+wide_at letter false =
+    let first : (2 * letter + 1) / 2 ≡ letter = omega arith in
+    let minus : eqb ((2 * letter + 1) % 2) 0 ≡ false = ne_eqb ((2 * letter + 1) % 2) 0 (λ q. omega arith) in
+    cc
+
+wide_numbered : (t : Turn) → IsTrue (is_wide_turn t) → (n : ℕ) × (n < 6) × (wide_turn_at n ≡ t)
+wide_numbered (Wide letter true) h = let l = ltb-true letter 3 h in (2 * letter + 0, omega (arith, l), wide_at letter true)
+wide_numbered (Wide letter false) h = let l = ltb-true letter 3 h in (2 * letter + 1, omega (arith, l), wide_at letter false)
 wide_numbered _ h = absurd (false≢true h)
 
 wide_turns : IsTrue (all_below (λ n. is_wide_turn (wide_turn_at n)) 6)
@@ -249,3 +262,40 @@ has_turn_at WideTurns n k l = at_below (λ i. is_wide_turn (wide_turn_at i)) 6 n
 pub turns_333 : turn_at (kind_of C333) ≡ face_turn_at
 unfolding turn_at
 turns_333 = refl
+
+-- ---- the number of a turn, by what it is
+
+pub at_face : (kind : Kind) (f d a : ℕ) → IsTrue (has_turn kind (Face f d a))
+    → turn_at kind (18 * (d - 1) + 3 * f + (a - 1)) ≡ Face f d a
+unfolding turn_at
+at_face (Faces near far) f d a h = face_at near far f d a (face_turn_parts near far f d a h)
+at_face _ f d a h = absurd (false≢true h)
+
+pub at_axis : (kind : Kind) (a m : ℕ) → IsTrue (has_turn kind (Axis a m)) → turn_at kind (2 * a + (m - 1)) ≡ Axis a m
+unfolding turn_at
+at_axis (Axes tips) a m h = axis_at a m (thirds_parts a m h)
+at_axis _ a m h = absurd (false≢true h)
+
+pub at_tip : (kind : Kind) (a m : ℕ) → IsTrue (has_turn kind (Tip a m)) → turn_at kind (8 + 2 * a + (m - 1)) ≡ Tip a m
+unfolding turn_at
+at_tip (Axes true) a m h = tip_at a m (thirds_parts a m h)
+at_tip _ a m h = absurd (false≢true h)
+
+pub at_layers : (kind : Kind) (i j : ℕ) (top bottom : ℤ) → IsTrue (has_turn kind (Layers top bottom))
+    → pos i -ℤ pos 5 ≡ top → pos j -ℤ pos 5 ≡ bottom → turn_at kind (12 * i + j) ≡ Layers top bottom
+unfolding turn_at
+at_layers LayersAndTwist i j top bottom h e f =
+    let p = layers_parts top bottom h in
+    layers_at i j top bottom (omega (arith, ints, e, p.top_within.high)) (omega (arith, ints, f, p.bottom_within.high)) e f p.some
+at_layers _ i j top bottom h e f = absurd (false≢true h)
+
+pub at_twist : (kind : Kind) → IsTrue (has_turn kind Twist) → turn_at kind 65 ≡ Twist
+unfolding turn_at layer_turn_at
+at_twist LayersAndTwist h = refl
+at_twist _ h = absurd (false≢true h)
+
+pub at_wide : (kind : Kind) (letter : ℕ) (plus : Bool) → IsTrue (has_turn kind (Wide letter plus))
+    → turn_at kind (2 * letter + cond plus 0 1) ≡ Wide letter plus
+unfolding turn_at
+at_wide WideTurns letter plus h = wide_at letter plus
+at_wide _ letter plus h = absurd (false≢true h)

@@ -1,6 +1,8 @@
 -- Turns taken back.
-use Rattle.std.proofs.Common.{◌≡◌, ℕ, ◌-◌, ◌%◌, ◌<◌, ◌==◌, Bool, true, false, IsTrue, refl, sym, ap, ◌∙◌, arith, le-leb}
-use Rattle.std.specs.Prelude.{◌&&◌, nat_le, nat_lt, ℤ, pos, neg_ℤ}
+use Rattle.std.proofs.Common.{◌≡◌, ℕ, ◌-◌, ◌%◌, ◌<◌, ◌==◌, Bool, true, false, IsTrue, List, length, refl, sym, ap, ◌∙◌, arith, le-leb}
+use Rattle.std.specs.Prelude.{◌&&◌, nat_le, nat_lt, ℤ, pos, neg_ℤ, map}
+use Rattle.std.proofs.lemmas.List.{length-map, length-reverse}
+use Rattle.scr_combinatorics.specs.Back.{back}
 use Rattle.std.specs.List.{list_any}
 use Rattle.std.proofs.lemmas.Bool.{false≢true}
 use Rattle.scr_notation.specs.declared.event.Event.{Event}
@@ -120,3 +122,7 @@ permits-opposite e t h = (opposite_of_kind (kind_of e) t h).is
 
 pub opposite-opposite : (e : Event) (t : Turn) → IsTrue (permits e t) → opposite (opposite t) ≡ t
 opposite-opposite e t h = (opposite_of_kind (kind_of e) t h).twice
+
+-- a word that is taken back is as long
+pub length-back : (ts : List Turn) → length (back opposite ts) ≡ length ts
+length-back ts = length-reverse (map opposite ts) ∙ length-map ts opposite

@@ -61,13 +61,7 @@ module _ (far : ℕ) (small : far ≤ 1) where
   face_powers_of : (t : Turn) → IsTrue (is_face_turn 1 far t)
       → (p : Power) × (quarters_of t ≡ Some p) × (p.generator < 3 + 3 * far)
   face_powers_of (Face face depth amount) h = face_power face depth amount h
-  face_powers_of (Axis axis amount) h = absurd (false≢true h)
-  face_powers_of (Tip tip amount) h = absurd (false≢true h)
-  face_powers_of (Layers top bottom) h = absurd (false≢true h)
-  face_powers_of Twist h = absurd (false≢true h)
-  face_powers_of (Pins pins amount) h = absurd (false≢true h)
-  face_powers_of Over h = absurd (false≢true h)
-  face_powers_of (Wide letter plus) h = absurd (false≢true h)
+  face_powers_of _ h = absurd (false≢true h)
 
   pub tells_faces : TellsPowers quarters_of (3 + 3 * far) (is_face_turn 1 far)
   tells_faces = record {
@@ -100,14 +94,8 @@ axis_powers_of : (tips : Bool) (t : Turn) → IsTrue (is_axis_turn tips t)
     → (p : Power) × (thirds_of t ≡ Some p) × (p.generator < cond tips 8 4)
 axis_powers_of false (Axis axis amount) h = axis_power axis amount 4 (omega arith) h
 axis_powers_of true (Axis axis amount) h = axis_power axis amount 8 (omega arith) h
-axis_powers_of false (Tip tip amount) h = absurd (false≢true h)
 axis_powers_of true (Tip tip amount) h = tip_power tip amount h
-axis_powers_of tips (Face face depth amount) h = absurd (false≢true h)
-axis_powers_of tips (Layers top bottom) h = absurd (false≢true h)
-axis_powers_of tips Twist h = absurd (false≢true h)
-axis_powers_of tips (Pins pins amount) h = absurd (false≢true h)
-axis_powers_of tips Over h = absurd (false≢true h)
-axis_powers_of tips (Wide letter plus) h = absurd (false≢true h)
+axis_powers_of tips _ h = absurd (false≢true h)
 
 are_tips : (tips : Bool) (tip : ℕ) → 4 + tip < cond tips 8 4 → tips ≡ true
 are_tips true tip lt = refl

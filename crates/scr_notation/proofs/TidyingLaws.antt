@@ -1,137 +1,89 @@
--- The steps of taking back and of tidying, over words that are kept with the last turn first.
-use Rattle.std.proofs.Common.{◌≡◌, ℕ, ◌-◌, ◌<◌, ◌≤◌, false, IsTrue, List, [], ◌∷◌, ◌++◌, Option, Some, None, length, drop, get_or, reverse, refl, sym, ap, ◌∙◌, subst, arith, suc}
-use Rattle.std.specs.Prelude.{All, map}
-use mathlib.Core.List.{reverse-append, reverse-cons, reverse-reverse}
-use Rattle.std.proofs.Math.Nat.{le_refl}
+-- The steps of taking back and of tidying words that are told by numbers, which tidying keeps with the last one first.
+use Rattle.std.proofs.Common.{◌≡◌, ℕ, ◌-◌, ◌<◌, ◌≤◌, false, IsTrue, List, [], ◌∷◌, ◌++◌, Option, Some, None, length, drop, get_or, reverse, refl, sym, ap, ◌∙◌, arith, suc}
+use Rattle.std.specs.Prelude.{map}
+use Rattle.std.specs.Option.{option_map}
+use mathlib.Core.List.{reverse-append}
 use Rattle.std.proofs.Math.Seq.{drop-cons}
-use Rattle.std.proofs.lemmas.List.{drop_all, length-reverse, length-map}
-use Rattle.std.proofs.lemmas.List.Elements.{All-nil, All-head, All-tail, All-push, All-get_or}
 use Rattle.scr_combinatorics.specs.Back.{back}
 use Rattle.scr_combinatorics.proofs.BackLaws.{back-first}
 use Rattle.scr_combinatorics.specs.Tidy.{word_of, with_turn, tidy, begins_alike}
-use Rattle.scr_combinatorics.proofs.TidyLaws.{with_turn-alike, with_turn-apart, All-tidy}
-use Rattle.scr_notation.specs.declared.event.Event.{Event}
+use Rattle.scr_combinatorics.proofs.TidyLaws.{with_turn-alike, with_turn-apart}
+use Rattle.scr_notation.specs.declared.event.Kind.{Kind}
 use Rattle.scr_notation.specs.declared.turn.Turn.{Turn}
-use Rattle.scr_notation.specs.Event.{kind_of}
-use Rattle.scr_notation.specs.Turns.{permits}
-use Rattle.scr_notation.specs.Turning.{opposite, are_alike, turns_merged, turn_merging, has_merging}
-use Rattle.scr_notation.specs.Written.{Written}
-use Rattle.scr_notation.proofs.MergingLaws.{IsMerging-event}
-use Rattle.scr_notation.proofs.OppositeLaws.{permits-opposite}
-
--- the turn before the others comes last
-reversed : (rest : List Turn) (u : Turn) → reverse (rest ++ u ∷ []) ≡ u ∷ reverse rest
-reversed rest u = reverse-append rest (u ∷ [])
-
--- a turn before no turn
-pub before-none : (t : Turn) (old new : List Turn) → old ≡ [] → new ≡ old ++ t ∷ []
-    → reverse new ≡ with_turn turn_merging t (reverse old)
-unfolding begins_alike
-before-none t old new e h =
-    ap reverse (h ∙ ap (λ x. x ++ t ∷ []) e)
-    ∙ sym (ap (λ x. with_turn turn_merging t (reverse x)) e ∙ with_turn-apart turn_merging t [] refl)
-
--- before a turn of its face, with which it comes to one turn or to none
-pub before-alike : (t u : Turn) (o : Option Turn) (old rest new : List Turn) → IsTrue (are_alike t u)
-    → turns_merged t u ≡ o → old ≡ rest ++ u ∷ [] → reverse new ≡ word_of o ++ reverse rest
-    → reverse new ≡ with_turn turn_merging t (reverse old)
-before-alike t u o old rest new a m e h =
-    h ∙ ap (λ x. word_of x ++ reverse rest) (sym m) ∙ sym (with_turn-alike turn_merging t u (reverse rest) a)
-    ∙ ap (with_turn turn_merging t) (sym (ap reverse e ∙ reversed rest u))
-
-pub merged-one : (v : Turn) (rest new : List Turn) → new ≡ rest ++ v ∷ []
-    → reverse new ≡ word_of (Some v) ++ reverse rest
-unfolding word_of
-merged-one v rest new h = ap reverse h ∙ reversed rest v
-
-pub merged-gone : (rest : List Turn) → let none : Option Turn = None in reverse rest ≡ word_of none ++ reverse rest
-unfolding word_of
-merged-gone rest = refl
-
--- before a turn of another face
-pub before-other : (t u : Turn) (old rest new : List Turn) → are_alike t u ≡ false → old ≡ rest ++ u ∷ []
-    → new ≡ old ++ t ∷ [] → reverse new ≡ with_turn turn_merging t (reverse old)
-unfolding begins_alike
-before-other t u old rest new a e h =
-    let r = ap reverse e ∙ reversed rest u in
-    ap reverse h ∙ reversed old t ∙ ap (λ x. t ∷ x) r
-    ∙ sym (ap (with_turn turn_merging t) r ∙ with_turn-apart turn_merging t (u ∷ reverse rest) a)
+use Rattle.scr_notation.specs.TurnNumbers.{turn_at}
+use Rattle.scr_notation.specs.Turning.{opposite, are_alike, turns_merged, turn_merging}
 
 -- what is left from one place earlier on
-pub one-earlier : (ts : List Turn) (k : ℕ) (d : Turn) → 0 < k → k ≤ length ts
-    → drop (k - 1) ts ≡ get_or ts (k - 1) d ∷ drop k ts
-one-earlier ts k d p l =
+one-earlier : {A : Type 0} (xs : List A) (k : ℕ) (d : A) → 0 < k → k ≤ length xs
+    → drop (k - 1) xs ≡ get_or xs (k - 1) d ∷ drop k xs
+one-earlier xs k d p l =
     let next : suc (k - 1) ≡ k = omega arith in
-    drop-cons ts (k - 1) d (omega arith) ∙ ap (λ j. get_or ts (k - 1) d ∷ drop j ts) next
+    drop-cons xs (k - 1) d (omega arith) ∙ ap (λ j. get_or xs (k - 1) d ∷ drop j xs) next
 
-pub tidy-none : (ts old : List Turn) → old ≡ [] → reverse old ≡ tidy turn_merging (drop (length ts) ts)
-unfolding tidy
-tidy-none ts old e = ap reverse e ∙ sym (ap (tidy turn_merging) (drop_all (length ts) ts (le_refl (length ts))))
+module _ (kind : Kind) where
+  -- the turns of numbers that stand with the last one first
+  abbrev pub turns_of : List ℕ → List Turn
+  turns_of numbers = map (turn_at kind) (reverse numbers)
 
--- one turn more is tidied
-pub tidy-more : (ts : List Turn) (k : ℕ) (d : Turn) (old new : List Turn) → 0 < k → k ≤ length ts
-    → reverse old ≡ tidy turn_merging (drop k ts)
-    → reverse new ≡ with_turn turn_merging (get_or ts (k - 1) d) (reverse old)
-    → reverse new ≡ tidy turn_merging (drop (k - 1) ts)
-unfolding tidy
-tidy-more ts k d old new p l e h =
-    h ∙ ap (with_turn turn_merging (get_or ts (k - 1) d)) e ∙ sym (ap (tidy turn_merging) (one-earlier ts k d p l))
+  -- the turn before the others comes last
+  pushed : (rest : List ℕ) (n : ℕ) → turns_of (rest ++ n ∷ []) ≡ turn_at kind n ∷ turns_of rest
+  pushed rest n = ap (map (turn_at kind)) (reverse-append rest (n ∷ []))
 
--- a turn is added at the end of a word
-pub pushed-next : (e : Event) (word : List Turn) (t u : Turn) (before after : Written)
-    → before ≡ record { event = e; turns = word } → t ≡ u → after ≡ record { event = before.event; turns = before.turns ++ t ∷ [] }
-    → after ≡ record { event = e; turns = word ++ u ∷ [] }
-pushed-next e word t u before after is same pushed =
-    pushed ∙ ap (λ s. record { event = s.event; turns = s.turns ++ t ∷ [] }) is
-    ∙ ap (λ x. record { event = e; turns = word ++ x ∷ [] }) same
+  -- a turn before no turn
+  pub before-none : (n : ℕ) (old new : List ℕ) → old ≡ [] → new ≡ old ++ n ∷ []
+      → turns_of new ≡ with_turn turn_merging (turn_at kind n) (turns_of old)
+  unfolding begins_alike
+  before-none n old new e h =
+      ap turns_of (h ∙ ap (λ x. x ++ n ∷ []) e)
+      ∙ sym (ap (λ x. with_turn turn_merging (turn_at kind n) (turns_of x)) e ∙ with_turn-apart turn_merging (turn_at kind n) [] refl)
 
--- a scramble whose turns are a word has the room of the word, and the turns of its event
-pub room-as : (e : Event) (word : List Turn) (before : Written) → before ≡ record { event = e; turns = word } → length word < 160
-    → length before.turns < 160
-room-as e word before is l = omega (arith, ap (λ (s : Written). length s.turns) is)
+  -- before a turn of its face, with which it comes to one turn or to none
+  pub before-alike : (n m : ℕ) (left : Option ℕ) (old rest new : List ℕ) → IsTrue (are_alike (turn_at kind n) (turn_at kind m))
+      → option_map (turn_at kind) left ≡ turns_merged (turn_at kind n) (turn_at kind m) → old ≡ rest ++ m ∷ []
+      → turns_of new ≡ word_of (option_map (turn_at kind) left) ++ turns_of rest
+      → turns_of new ≡ with_turn turn_merging (turn_at kind n) (turns_of old)
+  before-alike n m left old rest new a is e h =
+      h ∙ ap (λ x. word_of x ++ turns_of rest) is
+      ∙ sym (with_turn-alike turn_merging (turn_at kind n) (turn_at kind m) (turns_of rest) a)
+      ∙ ap (with_turn turn_merging (turn_at kind n)) (sym (ap turns_of e ∙ pushed rest m))
 
-pub permits-as : (e : Event) (word : List Turn) (t u : Turn) (before : Written) → before ≡ record { event = e; turns = word } → t ≡ u
-    → IsTrue (permits e u) → IsTrue (permits before.event t)
-permits-as e word t u before is same p = ap (λ (s : Written). permits s.event t) is ∙ ap (permits e) same ∙ p
+  pub merged-one : (n : ℕ) (rest new : List ℕ) → new ≡ rest ++ n ∷ []
+      → turns_of new ≡ word_of (option_map (turn_at kind) (Some n)) ++ turns_of rest
+  unfolding word_of
+  merged-one n rest new h = ap turns_of h ∙ pushed rest n
 
--- one turn more is taken back
-pub back-more : (ts : List Turn) (k : ℕ) (d : Turn) → 0 < k → k ≤ length ts
-    → back opposite (drop (k - 1) ts) ≡ back opposite (drop k ts) ++ opposite (get_or ts (k - 1) d) ∷ []
-back-more ts k d p l = ap (back opposite) (one-earlier ts k d p l) ∙ back-first opposite (get_or ts (k - 1) d) (drop k ts)
+  pub merged-gone : (rest new : List ℕ) → new ≡ rest → let none : Option ℕ = None in
+      turns_of new ≡ word_of (option_map (turn_at kind) none) ++ turns_of rest
+  unfolding word_of
+  merged-gone rest new h = ap turns_of h
 
--- the opposite of a scramble's turn is a turn of the event
-pub permitted-back : (e : Event) (ts us : List Turn) (k : ℕ) (d : Turn) → All (λ t. IsTrue (permits e t)) ts → us ≡ ts
-    → k < length us → IsTrue (permits e (opposite (get_or us k d)))
-permitted-back e ts us k d a s l =
-    let P : Turn → Type 0 = λ t. IsTrue (permits e t) in
-    let Q : List Turn → Type 0 = λ x. All P x in
-    permits-opposite e (get_or us k d) (All-get_or P us k d l (subst Q (sym s) a))
+  -- before a turn of another face
+  pub before-other : (n m : ℕ) (old rest new : List ℕ) → are_alike (turn_at kind n) (turn_at kind m) ≡ false → old ≡ rest ++ m ∷ []
+      → new ≡ old ++ n ∷ [] → turns_of new ≡ with_turn turn_merging (turn_at kind n) (turns_of old)
+  unfolding begins_alike
+  before-other n m old rest new a e h =
+      let r = ap turns_of e ∙ pushed rest m in
+      ap turns_of h ∙ pushed old n ∙ ap (λ x. turn_at kind n ∷ x) r
+      ∙ sym (ap (with_turn turn_merging (turn_at kind n)) r ∙ with_turn-apart turn_merging (turn_at kind n) (turn_at kind m ∷ turns_of rest) a)
 
--- a word that is taken back is as long
-pub length-back : (ts : List Turn) → length (back opposite ts) ≡ length ts
-length-back ts = length-reverse (map opposite ts) ∙ length-map ts opposite
+  -- one turn more is tidied
+  pub tidy-more : (numbers : List ℕ) (k d : ℕ) (old new : List ℕ) → 0 < k → k ≤ length numbers
+      → turns_of old ≡ tidy turn_merging (map (turn_at kind) (drop k numbers))
+      → turns_of new ≡ with_turn turn_merging (turn_at kind (get_or numbers (k - 1) d)) (turns_of old)
+      → turns_of new ≡ tidy turn_merging (map (turn_at kind) (drop (k - 1) numbers))
+  unfolding tidy
+  tidy-more numbers k d old new p l e h =
+      h ∙ ap (with_turn turn_merging (turn_at kind (get_or numbers (k - 1) d))) e
+      ∙ sym (ap (λ ns. tidy turn_merging (map (turn_at kind) ns)) (one-earlier numbers k d p l))
 
--- one turn more of a word that is kept with the last one first
-pub reverse-more : (ts : List Turn) (k : ℕ) (d : Turn) → 0 < k → k ≤ length ts
-    → reverse (drop (k - 1) ts) ≡ reverse (drop k ts) ++ get_or ts (k - 1) d ∷ []
-reverse-more ts k d p l = ap reverse (one-earlier ts k d p l) ∙ reverse-cons (get_or ts (k - 1) d) (drop k ts)
+  -- one turn more is taken back
+  pub back-more : (numbers : List ℕ) (k d : ℕ) → 0 < k → k ≤ length numbers
+      → back opposite (map (turn_at kind) (drop (k - 1) numbers))
+      ≡ back opposite (map (turn_at kind) (drop k numbers)) ++ opposite (turn_at kind (get_or numbers (k - 1) d)) ∷ []
+  back-more numbers k d p l =
+      ap (λ ns. back opposite (map (turn_at kind) ns)) (one-earlier numbers k d p l)
+      ∙ back-first opposite (turn_at kind (get_or numbers (k - 1) d)) (map (turn_at kind) (drop k numbers))
 
-All-reverse : (P : Turn → Type 0) (ts : List Turn) → All P ts → All P (reverse ts)
-All-reverse P [] a = All-nil P
-All-reverse P (t ∷ ts) a =
-    let Q : List Turn → Type 0 = λ x. All P x in
-    subst Q (sym (reverse-cons t ts)) (All-push P (reverse ts) t (All-reverse P ts (All-tail P t ts a)) (All-head P t ts a))
-
--- the turns of a tidied scramble, kept with the last one first, are turns of the event
-pub permitted-tidied : (e : Event) (ts kept : List Turn) (k : ℕ) (d : Turn) → IsTrue (has_merging (kind_of e))
-    → All (λ t. IsTrue (permits e t)) ts → reverse kept ≡ tidy turn_merging ts → k < length kept
-    → IsTrue (permits e (get_or kept k d))
-permitted-tidied e ts kept k d i a h l =
-    let P : Turn → Type 0 = λ t. IsTrue (permits e t) in
-    let Q : List Turn → Type 0 = λ x. All P x in
-    let back : reverse (tidy turn_merging ts) ≡ kept = sym (ap reverse h) ∙ reverse-reverse kept in
-    All-get_or P kept k d l (subst Q back (All-reverse P (tidy turn_merging ts) (All-tidy turn_merging P (IsMerging-event e i).closed ts a)))
-
-pub no-turns : (ts : List Turn) → (0 < length ts → ⊥) → ts ≡ []
-no-turns [] n = refl
-no-turns (t ∷ ts) n = absurd (n (omega arith))
+pub no-numbers : (ns : List ℕ) → (0 < length ns → ⊥) → ns ≡ []
+no-numbers [] n = refl
+no-numbers (t ∷ ts) n = absurd (n (omega arith))

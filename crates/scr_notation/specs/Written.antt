@@ -1,7 +1,9 @@
 -- What a contract sees of a scramble.
-use Rattle.std.specs.Prelude.{◌≡◌, ℕ, ◌≤◌, ◌==◌, IsTrue, if◌then◌else◌, List, ◌∷◌, ◌++◌, length, All, Option, Some}
+use Rattle.std.specs.Prelude.{◌≡◌, ℕ, ◌≤◌, ◌==◌, IsTrue, if◌then◌else◌, List, ◌∷◌, ◌++◌, length, All, map, Option, Some}
 use Rattle.scr_notation.specs.declared.event.Event.{Event}
 use Rattle.scr_notation.specs.declared.turn.Turn.{Turn}
+use Rattle.scr_notation.specs.Event.{kind_of}
+use Rattle.scr_notation.specs.TurnNumbers.{turn_at}
 use Rattle.scr_notation.specs.Turns.{permits}
 
 -- an event and its turns, in order
@@ -13,6 +15,10 @@ pub record Written : Type 0 where
 pub record IsWritten (s : Written) : Type 0 where
   pub room : length s.turns ≤ 160
   pub permitted : All (λ t. IsTrue (permits s.event t)) s.turns
+
+-- the word of an event's turns with these numbers
+abbrev pub numbered_word : Event → List ℕ → Written
+numbered_word event numbers = record { event = event; turns = map (turn_at (kind_of event)) numbers }
 
 -- at most so many turns
 abbrev pub at_most : ℕ → List Turn → Type 0

@@ -7,6 +7,7 @@
 //! text of exactly the scramble that was read, and any other is refused at its first word at fault, with the byte at
 //! which that word begins. `inverse` is the reversed list of opposite turns, and `tidy` what is left when turns of one
 //! face, turns of layers and twists are merged, in whatever order.
+//! A word that is still to be joined, tidied or taken back is told by the numbers of its turns ([`NumberedWord`]).
 //!
 //! Turns at faces ([`Faces`]), and those about axes and of tips ([`Axes`]), are powers of quarter turns and of thirds,
 //! as a half turn of a face is its quarter turn twice; each has its number (`specs/FaceLetters.antt`,
@@ -22,6 +23,7 @@ mod event;
 mod event_set;
 pub mod laws;
 mod letters;
+mod numbered_word;
 mod printing;
 mod reading;
 mod scramble;
@@ -33,9 +35,10 @@ mod turning;
 pub use event::{EVENTS, Event, Family, Kind, Minima, Puzzle};
 pub use event_set::EventSet;
 pub use letters::{Axes, Faces, Letters};
+pub use numbered_word::NumberedWord;
 pub use printing::print;
 pub use reading::{NotationFault, parse, parse_bytes};
-pub use scramble::{MOST_TURNS, Scramble, numbered_scramble, push_all, push_numbered, push_turn};
+pub use scramble::{MOST_TURNS, Scramble, push_all, push_turn};
 pub use turn::{PIN_SETS, Turn, turn_at, turn_count};
 pub use turned::PowerTurned;
-pub use turning::{inverse, layers_turned, tidy};
+pub use turning::{inverse, tidy};

@@ -1,14 +1,12 @@
 //! A scramble: an event and its turns.
-ghost use Rattle.std.specs.Prelude.{◌≡◌, ◌+◌, ◌<◌, ◌≤◌, ◌↔◌, [], ◌∷◌, ◌++◌, All, length, map, IsTrue};
+ghost use Rattle.std.specs.Prelude.{◌≡◌, ◌+◌, ◌<◌, ◌≤◌, ◌↔◌, [], ◌∷◌, ◌++◌, length, IsTrue};
 ghost use Rattle.std.specs.Bool.{OnTrue, OnFalse};
 ghost use Rattle.scr_notation.specs.declared.turn.Turn.{Turn as Letter};
-ghost use Rattle.scr_notation.specs.Event.{kind_of};
-ghost use Rattle.scr_notation.specs.TurnNumbers.{turn_at, turn_count};
 ghost use Rattle.scr_notation.specs.Turns.{permits};
 ghost use Rattle.scr_notation.specs.Written.{IsWritten};
 
 use crate::event::Event;
-use crate::turn::{Turn, is_of_kind, turn_at};
+use crate::turn::{Turn, is_of_kind};
 use arrayvec::ArrayVec;
 use std::marker::Model;
 
@@ -98,30 +96,6 @@ pub fn push_turn(scramble: &mut Scramble, turn: Turn)
     ensures valid { IsWritten scramble.new }
 {
     scramble.turns.push(turn);
-}
-
-/// Adds the turn with a number among the event's turns to a scramble that has room.
-pub fn push_numbered(scramble: &mut Scramble, number: u8)
-    requires room { length scramble.old.turns < 160 }
-    requires below { number < turn_count (kind_of scramble.old.event) }
-    ensures { let turn = turn_at (kind_of scramble.old.event) number in
-        scramble.new ≡ record { event = scramble.old.event; turns = scramble.old.turns ++ turn ∷ [] } }
-{
-    let turn = turn_at(scramble.event().kind(), number);
-    push_turn(scramble, turn);
-}
-
-/// The scramble of the turns with these numbers among an event's turns. They are at most 160.
-pub fn numbered_scramble(event: Event, numbers: &[u8]) -> Scramble
-    requires few { length numbers.now ≤ 160 }
-    requires below { All (λ number. number < turn_count (kind_of event)) numbers.now }
-    ensures { result ≡ record { event = event; turns = map (turn_at (kind_of event)) numbers.now } }
-{
-    let mut scramble = Scramble::new(event);
-    for number in numbers {
-        push_numbered(&mut scramble, *number);
-    }
-    scramble
 }
 
 /// Adds the turns of a scramble to another of the same event, which has room for them.

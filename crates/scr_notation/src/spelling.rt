@@ -33,17 +33,17 @@ pub(crate) fn spelled(event: Event, turn: Turn) -> ArrayString<7>
             depth,
             amount,
         } => {
-            text.push_str(before_letter(depth));
-            push_letter(&mut text, &FACE_LETTERS, face);
-            text.push_str(behind_letter(depth));
+            text.push_str(if depth == 3 { "3" } else { "" });
+            text.push(FACE_LETTERS[face as usize] as char);
+            text.push_str(if depth == 1 { "" } else { "w" });
             text.push_str(amount_name(4, amount));
         }
         Turn::Axis { axis, amount } => {
-            push_letter(&mut text, &AXIS_LETTERS, axis);
+            text.push(AXIS_LETTERS[axis as usize] as char);
             text.push_str(amount_name(3, amount));
         }
         Turn::Tip { tip, amount } => {
-            push_letter(&mut text, &TIP_LETTERS, tip);
+            text.push(TIP_LETTERS[tip as usize] as char);
             text.push_str(amount_name(3, amount));
         }
         Turn::Layers { top, bottom } => {
@@ -60,37 +60,11 @@ pub(crate) fn spelled(event: Event, turn: Turn) -> ArrayString<7>
         }
         Turn::Over => text.push_str("y2"),
         Turn::Wide { letter, plus } => {
-            push_letter(&mut text, &WIDE_LETTERS, letter);
+            text.push(WIDE_LETTERS[letter as usize] as char);
             text.push_str(way(letter, plus));
         }
     }
     text
-}
-
-/// Writes the letter with this number behind a text.
-fn push_letter(text: &mut ArrayString<7>, letters: &[u8], number: u8)
-    requires below { number < length letters.now }
-    requires ascii { (n : ℕ) → n < length letters.now → slice_index letters.now n < 128 }
-    requires room { array_string_len text.old + 1 ≤ 7 }
-    ensures { text.new.bytes ≡ text.old.bytes ++ letter_text letters.now number }
-{
-    text.push(letters[number as usize] as char);
-}
-
-/// What stands before the letter of a face's turn of so many layers.
-fn before_letter(depth: u8) -> &'static str
-    ensures value { result.now ≡ layers_before depth }
-    ensures short { length result.now ≤ 1 }
-{
-    if depth == 3 { "3" } else { "" }
-}
-
-/// What stands behind it.
-fn behind_letter(depth: u8) -> &'static str
-    ensures value { result.now ≡ layers_behind depth }
-    ensures short { length result.now ≤ 1 }
-{
-    if depth == 1 { "" } else { "w" }
 }
 
 /// How an amount is written, of which `order` make a whole turn.

@@ -1,17 +1,21 @@
-//! Scrambles taken back and tidied.
-ghost use Rattle.std.specs.Prelude.{◌≡◌, ◌+◌, ◌-◌, ◌<◌, ◌≤◌, neg_ℤ, ◌+ℤ◌, reverse, length, IfSome, IsTrue};
-ghost use Rattle.arrayvec.specs.ArrayVec.{array_vec_len};
+//! Turns taken back and merged, by their numbers, and so scrambles taken back and tidied.
+ghost use Rattle.std.specs.Prelude.{◌≡◌, ◌<◌, IfSome, IsTrue, is_some};
+ghost use Rattle.std.specs.Option.{option_map};
 ghost use Rattle.scr_combinatorics.specs.Back.{back};
-ghost use Rattle.scr_combinatorics.specs.Tidy.{with_turn, tidy};
+ghost use Rattle.scr_combinatorics.specs.Tidy.{tidy};
 ghost use Rattle.scr_notation.specs.declared.event.Event.TheVariants.{Clock};
 ghost use Rattle.scr_notation.specs.Event.{kind_of};
+ghost use Rattle.scr_notation.specs.Kinds.{IsKind};
+ghost use Rattle.scr_notation.specs.TurnNumbers.{turn_at, turn_count};
+ghost use Rattle.scr_notation.specs.Turning.{opposite, are_alike, turns_merged, turn_merging, has_merging};
 ghost use Rattle.scr_notation.specs.Written.{IsWritten};
-ghost use Rattle.scr_notation.specs.Layers.{twelfths, is_layer_turn};
-ghost use Rattle.scr_notation.specs.Turning.{opposite, are_alike, face_turned, layers_turned, turns_merged, turn_merging, has_merging};
 
-use crate::scramble::{MOST_TURNS, Scramble, push_turn};
-use crate::turn::Turn;
-use arrayvec::ArrayVec;
+use crate::event::Kind;
+use crate::numbered_word::NumberedWord;
+use crate::scramble::Scramble;
+
+/// The number of a Square-1's twist. It stands where the turn would that leaves both layers.
+const TWIST: u8 = 65;
 
 /// The scramble that undoes this one, of any event but Clock: the opposite turns in reversed order.
 pub fn inverse(scramble: &Scramble) -> Scramble
@@ -19,12 +23,7 @@ pub fn inverse(scramble: &Scramble) -> Scramble
     ensures value { result ≡ record { event = scramble.now.event; turns = back opposite scramble.now.turns } }
     ensures valid { IsWritten result }
 {
-    let turns = scramble.turns();
-    let mut undoing = Scramble::new(scramble.event());
-    for k in (0..turns.len()).rev() {
-        push_turn(&mut undoing, opposite(turns[k]));
-    }
-    undoing
+    NumberedWord::of_scramble(scramble).taken_back()
 }
 
 /// What is left of a scramble of cubes or of Square-1 when neighbouring turns of one face, or of the layers, or two
@@ -35,177 +34,49 @@ pub fn tidy(scramble: &Scramble) -> Scramble
     ensures value { result ≡ record { event = scramble.now.event; turns = tidy turn_merging scramble.now.turns } }
     ensures valid { IsWritten result }
 {
-    let last_first = tidied(scramble.turns());
-    let mut tidy = Scramble::new(scramble.event());
-    for k in (0..last_first.len()).rev() {
-        push_turn(&mut tidy, last_first[k]);
-    }
-    tidy
+    NumberedWord::of_scramble(scramble).tidied().scramble()
 }
 
-/// The tidied turns, with the last one first.
-fn tidied(turns: &[Turn]) -> ArrayVec<Turn, MOST_TURNS>
-    requires { length turns.now ≤ 160 }
-    ensures { reverse result.items ≡ tidy turn_merging turns.now }
+/// The number of the turn that undoes the turn with this number.
+pub(crate) fn back_number(kind: Kind, number: u8) -> u8
+    requires kind { IsKind kind }
+    requires below { number < turn_count kind }
+    ensures turn { turn_at kind result ≡ opposite (turn_at kind number) }
+    ensures below { result < turn_count kind }
 {
-    let mut last_first = ArrayVec::new();
-    for k in (0..turns.len()).rev() {
-        put_before(&mut last_first, turns[k]);
-    }
-    last_first
-}
-
-/// Puts a turn before a tidy word, whose turns stand with the last one first.
-fn put_before(last_first: &mut ArrayVec<Turn, MOST_TURNS>, turn: Turn)
-    requires { array_vec_len last_first.old < 160 }
-    ensures word { reverse last_first.new.items ≡ with_turn turn_merging turn (reverse last_first.old.items) }
-    ensures len { array_vec_len last_first.new ≤ array_vec_len last_first.old + 1 }
-{
-    let Some(next) = last_first.pop() else {
-        last_first.push(turn);
-        return;
-    };
-    if !are_alike(turn, next) {
-        last_first.push(next);
-        last_first.push(turn);
-    } else if let Some(merged) = turns_merged(turn, next) {
-        last_first.push(merged);
+    match kind {
+        Kind::Faces { .. } => number - number % 3 + (2 - number % 3),
+        Kind::Axes { .. } => number - number % 2 + (1 - number % 2),
+        Kind::LayersAndTwist => 12 * ((22 - number / 12) % 12) + (22 - number % 12) % 12,
+        Kind::PinSets => number - number % 12 + (12 - number % 12) % 12,
+        Kind::WideTurns => number - number % 2 + (1 - number % 2),
     }
 }
 
-/// The turn that undoes a turn.
-fn opposite(turn: Turn) -> Turn
-    ensures { result ≡ opposite turn }
+/// What two turns come to where they are neighbours: `None` where they stay as they are, else the number of the one turn
+/// that is left of them, if one is. Turns are merged that are of one face and as many of its layers, of a Square-1's
+/// layers, or twists.
+pub(crate) fn merged_number(kind: Kind, first: u8, second: u8) -> Option<Option<u8>>
+    requires kind { IsKind kind }
+    requires merging { IsTrue (has_merging kind) }
+    requires first { first < turn_count kind }
+    requires second { second < turn_count kind }
+    ensures alike { is_some result ≡ are_alike (turn_at kind first) (turn_at kind second) }
+    ensures merged { IfSome result (λ left. option_map (turn_at kind) left ≡ turns_merged (turn_at kind first) (turn_at kind second)) }
+    ensures below { IfSome result (λ left. IfSome left (λ number. number < turn_count kind)) }
 {
-    match turn {
-        Turn::Face {
-            face,
-            depth,
-            amount,
-        } => Turn::Face {
-            face,
-            depth,
-            amount: 4u8.saturating_sub(amount),
-        },
-        Turn::Axis { axis, amount } => Turn::Axis {
-            axis,
-            amount: thirds_back(amount),
-        },
-        Turn::Tip { tip, amount } => Turn::Tip {
-            tip,
-            amount: thirds_back(amount),
-        },
-        Turn::Layers { top, bottom } => Turn::Layers {
-            top: twelfths_back(top),
-            bottom: twelfths_back(bottom),
-        },
-        Turn::Twist => turn,
-        Turn::Pins { pins, amount } => Turn::Pins {
-            pins,
-            amount: 12u8.saturating_sub(amount) % 12,
-        },
-        Turn::Over => turn,
-        Turn::Wide { letter, plus } => Turn::Wide {
-            letter,
-            plus: !plus,
-        },
+    match kind {
+        Kind::LayersAndTwist if (first == TWIST) != (second == TWIST) => None,
+        Kind::LayersAndTwist => {
+            let top = (first / 12 + second / 12 + 7) % 12;
+            let bottom = (first % 12 + second % 12 + 7) % 12;
+            let sum = 12 * top + bottom;
+            Some((sum != TWIST).then_some(sum))
+        }
+        _ if first / 3 != second / 3 => None,
+        _ => {
+            let quarters = (first % 3 + second % 3 + 1) % 4;
+            Some((quarters != 3).then_some(first - first % 3 + quarters))
+        }
     }
-}
-
-/// Whether both are turns of one face and of as many of its layers, or of a Square-1's layers, or twists.
-fn are_alike(turn: Turn, other: Turn) -> bool
-    ensures { result ≡ are_alike turn other }
-{
-    match (turn, other) {
-        (
-            Turn::Face { face, depth, .. },
-            Turn::Face {
-                face: other,
-                depth: deep,
-                ..
-            },
-        ) => face == other && depth == deep,
-        (Turn::Layers { .. }, Turn::Layers { .. }) => true,
-        (Turn::Twist, Turn::Twist) => true,
-        _ => false,
-    }
-}
-
-/// What two such turns come to together: one turn, or nothing.
-fn turns_merged(turn: Turn, other: Turn) -> Option<Turn>
-    ensures { result ≡ turns_merged turn other }
-{
-    match (turn, other) {
-        (
-            Turn::Face { amount, .. },
-            Turn::Face {
-                face,
-                depth,
-                amount: more,
-            },
-        ) => face_turned(face, depth, ((amount as u16 + more as u16) % 4) as u8),
-        (
-            Turn::Layers { top, bottom },
-            Turn::Layers {
-                top: more_top,
-                bottom: more_bottom,
-            },
-        ) => layers_turned(sum(top, more_top), sum(bottom, more_bottom)),
-        _ => None,
-    }
-}
-
-/// A face turned by so many quarters, or nothing where that is none.
-fn face_turned(face: u8, depth: u8, amount: u8) -> Option<Turn>
-    ensures { result ≡ face_turned face depth amount }
-{
-    if amount == 0 {
-        return None;
-    }
-    Some(Turn::Face {
-        face,
-        depth,
-        amount,
-    })
-}
-
-/// The layers of a Square-1 turned by so many twelfths, of which whole turns are dropped, or nothing where neither turns.
-pub fn layers_turned(top: i16, bottom: i16) -> Option<Turn>
-    ensures value { result ≡ layers_turned (twelfths top) (twelfths bottom) }
-    ensures turn { IfSome result (λ turn. IsTrue (is_layer_turn turn)) }
-{
-    let top = twelfths(top);
-    let bottom = twelfths(bottom);
-    if top == 0 && bottom == 0 {
-        return None;
-    }
-    Some(Turn::Layers { top, bottom })
-}
-
-/// The sum of two amounts.
-fn sum(amount: i8, more: i8) -> i16
-    ensures { result ≡ amount +ℤ more }
-{
-    amount as i16 + more as i16
-}
-
-/// What is left of three thirds.
-fn thirds_back(amount: u8) -> u8
-    ensures { result ≡ 3 - amount }
-{
-    3u8.saturating_sub(amount)
-}
-
-/// So many twelfths the other way.
-fn twelfths_back(amount: i8) -> i8
-    ensures { result ≡ twelfths (neg_ℤ amount) }
-{
-    twelfths(-(amount as i16))
-}
-
-/// Twelfths of a turn, modulo 12, from -5 to 6.
-fn twelfths(amount: i16) -> i8
-    ensures { result ≡ twelfths amount }
-{
-    ((amount as i32 + 5).rem_euclid(12) - 5) as i8
 }

@@ -3,19 +3,19 @@
 //! A proof goes over the words, and relates what the parser holds after each of them to what the grammar has read. The
 //! two words on which they differ, `-` and `--`, are refused before.
 
-ghost use Rattle.std.specs.Prelude.{◌≡◌, ◌<◌, ◌↔◌, ℕ, List, IfOk, Some, None, [], length, true, false, option_map, map};
+ghost use Rattle.std.specs.Prelude.{◌≡◌, ◌<◌, ℕ, IfOk, Some, None, length, true, false, option_map};
 ghost use Rattle.std.specs.List.{list_any, slice_index_or};
 ghost use Rattle.std.specs.Str.{IsUtf8};
-ghost use Rattle.clap.specs.Words.{FailsBy, app_of, fault_of, found_of, matches_of, rows_of, rule_of, with_rule};
+ghost use Rattle.clap.specs.Words.{app_of, found_of, rule_of};
 ghost use Rattle.scr_options.specs.Hyphens.{IsOrdinary, is_bare, is_nameless};
 ghost use Rattle.scr_options.specs.OptionWords.{options_of};
-ghost use Rattle.scr_options.specs.OptionsCommand.{app_with, options_app, raw_rule};
+ghost use Rattle.scr_options.specs.OptionsCommand.{options_app, raw_rule};
 ghost use Rattle.scr_options.specs.Split.{found_values};
 ghost use Rattle.scr_options.specs.Words.{texts, form_of, forms_of};
 
 use clap::error::ErrorKind;
 use clap::parser::ValueSource;
-use clap::{Arg, ArgAction, ArgMatches, Command, Error};
+use clap::{Arg, ArgAction, ArgMatches, Command};
 use std::alloc::{AllocError, Global};
 use std::marker::Model;
 
@@ -85,67 +85,30 @@ pub fn split_options<'w>(
     if has_bare_hyphens(words) {
         return Err(OptionsFault::Usage);
     }
-    match parse(alloc, forms, words) {
+    let Ok(command) = options_command(alloc, forms) else {
+        return Err(OptionsFault::NoMemory);
+    };
+    match command.try_get_matches_from(words) {
         Ok(matches) => Ok(SplitOptions { matches }),
-        Err(error) => Err(fault_of_parser(error.kind())),
+        Err(error) => match error.kind() {
+            ErrorKind::OutOfMemory => Err(OptionsFault::NoMemory),
+            _ => Err(OptionsFault::Usage),
+        },
     }
 }
 
-// Why words are refused that the parser refuses: want of memory exactly where the parser says so.
-fn fault_of_parser(kind: ErrorKind) -> OptionsFault
-    ensures { result ≡ OptionsFault.NoMemory ↔ (kind ≡ ErrorKind.OutOfMemory) }
-{
-    match kind {
-        ErrorKind::OutOfMemory => OptionsFault::NoMemory,
-        _ => OptionsFault::Usage,
-    }
-}
-
-// Splits words by the parser of command lines.
-fn parse<'w>(
-    alloc: Global,
-    forms: &[OptionForm],
-    words: &'w [&'w str],
-) -> Result<ArgMatches<'w>, Error>
-    ensures kinds { FailsBy (fault_of (options_app (forms_of forms.entry.now)) (texts words.entry.now)) result }
-    ensures rows { IfOk result (λ m.
-        rows_of (found_of m) ≡ matches_of (options_app (forms_of forms.entry.now)) (texts words.entry.now)) }
-{
-    let command = options_command(alloc, forms)?;
-    command.try_get_matches_from(words)
-}
-
-// The command with these options.
+// The command with these options. The first word is no program's name, and its own help and version flags are off.
 fn options_command<'w>(alloc: Global, forms: &[OptionForm]) -> Result<Command<'w>, AllocError>
     ensures { IfOk result (λ command. app_of command ≡ options_app (forms_of forms.entry.now)) }
 {
-    let mut command = empty_command(alloc);
-    for form in forms {
-        command = with_option(alloc, command, *form)?;
-    }
-    Ok(command)
-}
-
-// The command with one option more.
-fn with_option<'w>(
-    alloc: Global,
-    command: Command<'w>,
-    form: OptionForm,
-) -> Result<Command<'w>, AllocError>
-    ensures { IfOk result (λ more. app_of more ≡ with_rule (app_of command.entry) (raw_rule (form_of form))) }
-{
-    command.arg(option_arg(alloc, form))
-}
-
-// The command before its options. The first word is no program's name, and its own help and version
-// flags are off.
-fn empty_command<'w>(alloc: Global) -> Command<'w>
-    ensures { app_of result ≡ app_with [] }
-{
-    Command::new(alloc, "options")
+    let mut command = Command::new(alloc, "options")
         .no_binary_name(true)
         .disable_help_flag(true)
-        .disable_version_flag(true)
+        .disable_version_flag(true);
+    for form in forms {
+        command = command.arg(option_arg(alloc, *form))?;
+    }
+    Ok(command)
 }
 
 // An option whose long name is its id.

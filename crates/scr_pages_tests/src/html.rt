@@ -6,7 +6,7 @@ ghost use Rattle.scr_notation.specs.Event.{per_group_of};
 use arrayvec::ArrayString;
 use scr_html::{write_group, write_head, write_tail};
 use scr_layout::{Group, GroupPlace};
-use scr_notation::{Event, Scramble, push_numbered};
+use scr_notation::{Event, NumberedWord, Scramble};
 use std::alloc::{AllocError, Global};
 use std::test::Fail;
 
@@ -14,10 +14,7 @@ use std::test::Fail;
 fn short(event: Event) -> Scramble
     ensures { result.event ≡ event }
 {
-    let mut scramble = Scramble::new(event);
-    push_numbered(&mut scramble, 0);
-    push_numbered(&mut scramble, 4);
-    scramble
+    NumberedWord::of(event, &[0, 4]).scramble()
 }
 
 /// So many of them.

@@ -6,12 +6,12 @@ ghost use Rattle.scr_net.specs.Nets.{IsSide};
 ghost use Rattle.scr_picture.specs.declared.names.Alphabet.TheVariants.{Hours};
 ghost use Rattle.scr_picture.specs.Names.{IsLine, spaced_text};
 ghost use Rattle.scr_picture.specs.Pictures.{row_letters, face_letters, net_letters, clock_hours, sq1_letters};
-ghost use Rattle.scr_picture.specs.Pictures.{picture, picture_of, net_picture, pyram_picture, skewb_picture, minx_picture, clock_picture, sq1_picture};
+ghost use Rattle.scr_picture.specs.Pictures.{picture, picture_of, net_picture};
 
 use crate::names::{Alphabet, Text, joined, name_in, spaced};
 use crate::stickers::played;
 use crate::tables::{
-    minx_moves, pyram_moves, skewb_moves, solved_minx, solved_pyram, solved_skewb,
+    SOLVED_MINX, SOLVED_PYRAM, SOLVED_SKEWB, minx_moves, pyram_moves, skewb_moves,
 };
 use arrayvec::ArrayString;
 use scr_clock::Clock;
@@ -57,6 +57,7 @@ impl Picture {
 }
 
 /// The picture of this puzzle after a scramble.
+#[tactic(auto, unfolding(crate::specs::Pyraminx::solved_pyram_picture, crate::specs::Skewb::solved_skewb_picture, crate::specs::Megaminx::solved_minx))]
 fn picture_of(puzzle: Puzzle, scramble: &Scramble) -> Option<Picture>
     ensures { result ≡ picture puzzle scramble.now.turns }
 {
@@ -66,11 +67,36 @@ fn picture_of(puzzle: Puzzle, scramble: &Scramble) -> Option<Picture>
         Puzzle::Cube555 => net_picture::<5>(scramble),
         Puzzle::Cube666 => net_picture::<6>(scramble),
         Puzzle::Cube777 => net_picture::<7>(scramble),
-        Puzzle::Clock => clock_picture(scramble),
-        Puzzle::Megaminx => minx_picture(scramble),
-        Puzzle::Pyraminx => pyram_picture(scramble),
-        Puzzle::Skewb => skewb_picture(scramble),
-        Puzzle::Square1 => sq1_picture(scramble),
+        Puzzle::Clock => {
+            let clock = Clock::solved().play(scramble)?;
+            Some(Picture {
+                letters: clock_letters(&clock),
+            })
+        }
+        Puzzle::Megaminx => {
+            let letters = played(&SOLVED_MINX, minx_moves(), scramble.turns())?;
+            Some(Picture {
+                letters: spaced(Alphabet::Megaminx, &letters[..]),
+            })
+        }
+        Puzzle::Pyraminx => {
+            let letters = played(&SOLVED_PYRAM, pyram_moves(), scramble.turns())?;
+            Some(Picture {
+                letters: joined(Alphabet::Pyraminx, &letters[..]),
+            })
+        }
+        Puzzle::Skewb => {
+            let letters = played(&SOLVED_SKEWB, skewb_moves(), scramble.turns())?;
+            Some(Picture {
+                letters: joined(Alphabet::Cube, &letters[..]),
+            })
+        }
+        Puzzle::Square1 => {
+            let state = Sq1::solved().play(scramble)?;
+            Some(Picture {
+                letters: sq1_letters(&state),
+            })
+        }
     }
 }
 
@@ -82,56 +108,6 @@ fn net_picture<const SIDE: usize>(scramble: &Scramble) -> Option<Picture>
     let net = Net::<SIDE>::solved().play(scramble)?;
     Some(Picture {
         letters: net_letters(&net),
-    })
-}
-
-/// The picture of a Clock.
-fn clock_picture(scramble: &Scramble) -> Option<Picture>
-    ensures { result ≡ clock_picture scramble.now.turns }
-{
-    let clock = Clock::solved().play(scramble)?;
-    Some(Picture {
-        letters: clock_letters(&clock),
-    })
-}
-
-/// The picture of a Square-1.
-fn sq1_picture(scramble: &Scramble) -> Option<Picture>
-    ensures { result ≡ sq1_picture scramble.now.turns }
-{
-    let state = Sq1::solved().play(scramble)?;
-    Some(Picture {
-        letters: sq1_letters(&state),
-    })
-}
-
-/// The picture of a Megaminx.
-fn minx_picture(scramble: &Scramble) -> Option<Picture>
-    ensures { result ≡ minx_picture scramble.now.turns }
-{
-    let letters = played(solved_minx(), minx_moves(), scramble.turns())?;
-    Some(Picture {
-        letters: spaced(Alphabet::Megaminx, &letters[..]),
-    })
-}
-
-/// The picture of a Pyraminx.
-fn pyram_picture(scramble: &Scramble) -> Option<Picture>
-    ensures { result ≡ pyram_picture scramble.now.turns }
-{
-    let letters = played(solved_pyram(), pyram_moves(), scramble.turns())?;
-    Some(Picture {
-        letters: joined(Alphabet::Pyraminx, &letters[..]),
-    })
-}
-
-/// The picture of a Skewb.
-fn skewb_picture(scramble: &Scramble) -> Option<Picture>
-    ensures { result ≡ skewb_picture scramble.now.turns }
-{
-    let letters = played(solved_skewb(), skewb_moves(), scramble.turns())?;
-    Some(Picture {
-        letters: joined(Alphabet::Cube, &letters[..]),
     })
 }
 

@@ -1,9 +1,9 @@
 //! What each move of a puzzle does to its stickers: from which sticker's place one comes to each place. A wrong entry
 //! is refused, since the calls ensure that the tables are those of the definitions.
 ghost use Rattle.std.specs.Prelude.{◌≡◌, ◌<◌, All};
-ghost use Rattle.scr_picture.specs.Pyraminx.{pyram_moves, solved_pyram_picture};
-ghost use Rattle.scr_picture.specs.Skewb.{skewb_moves, solved_skewb_picture};
-ghost use Rattle.scr_picture.specs.Megaminx.{minx_moves, solved_minx};
+ghost use Rattle.scr_picture.specs.Pyraminx.{pyram_moves};
+ghost use Rattle.scr_picture.specs.Skewb.{skewb_moves};
+ghost use Rattle.scr_picture.specs.Megaminx.{minx_moves};
 
 /// Thirds about the axes U L R B of a Pyraminx, and of its tips u l r b.
 #[tactic(auto, unfolding(crate::specs::Pyraminx::pyram_moves, crate::specs::Stickers::sources))]
@@ -117,39 +117,18 @@ static MINX_MOVES: [[u8; 132]; 3] = [
 ];
 
 /// The letters of a solved Pyraminx.
-#[tactic(auto, unfolding(crate::specs::Pyraminx::solved_pyram_picture))]
-pub(crate) fn solved_pyram() -> &'static [u8; 36]
-    ensures { result.now ≡ solved_pyram_picture }
-{
-    &SOLVED_PYRAM
-}
-
-static SOLVED_PYRAM: [u8; 36] = [
+pub(crate) static SOLVED_PYRAM: [u8; 36] = [
     0, 0, 0, 0, 0, 0, 0, 0, 0, 1, 1, 1, 1, 1, 1, 1, 1, 1, 2, 2, 2, 2, 2, 2, 2, 2, 2, 3, 3, 3, 3, 3,
     3, 3, 3, 3,
 ];
 
 /// The letters of a solved Skewb.
-#[tactic(auto, unfolding(crate::specs::Skewb::solved_skewb_picture))]
-pub(crate) fn solved_skewb() -> &'static [u8; 30]
-    ensures { result.now ≡ solved_skewb_picture }
-{
-    &SOLVED_SKEWB
-}
-
-static SOLVED_SKEWB: [u8; 30] = [
+pub(crate) static SOLVED_SKEWB: [u8; 30] = [
     0, 0, 0, 0, 0, 1, 1, 1, 1, 1, 2, 2, 2, 2, 2, 3, 3, 3, 3, 3, 4, 4, 4, 4, 4, 5, 5, 5, 5, 5,
 ];
 
 /// The letters of a solved Megaminx.
-#[tactic(auto, unfolding(crate::specs::Megaminx::solved_minx))]
-pub(crate) fn solved_minx() -> &'static [u8; 132]
-    ensures { result.now ≡ solved_minx }
-{
-    &SOLVED_MINX
-}
-
-static SOLVED_MINX: [u8; 132] = [
+pub(crate) static SOLVED_MINX: [u8; 132] = [
     0, 0, 0, 0, 0, 0, 0, 0, 0, 0, 0, 1, 1, 1, 1, 1, 1, 1, 1, 1, 1, 1, 2, 2, 2, 2, 2, 2, 2, 2, 2, 2,
     2, 3, 3, 3, 3, 3, 3, 3, 3, 3, 3, 3, 4, 4, 4, 4, 4, 4, 4, 4, 4, 4, 4, 5, 5, 5, 5, 5, 5, 5, 5, 5,
     5, 5, 6, 6, 6, 6, 6, 6, 6, 6, 6, 6, 6, 7, 7, 7, 7, 7, 7, 7, 7, 7, 7, 7, 8, 8, 8, 8, 8, 8, 8, 8,

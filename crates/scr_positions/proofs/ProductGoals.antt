@@ -62,11 +62,6 @@ module _ (low high : Coordinate) where
         let row = row_at low.count (from / low.count) p (omega (arith, div-add-mod from low.count)) (omega arith) in
         high_false p (ap high.is_goal row.1 ∙ none)
 
-    pub row-none-low : HasNoGoal low (from % low.count) low.count
-        → HasNoGoal (product_coordinate low high) from (low.count * (from / low.count + 1))
-    row-none-low none = λ p least below.
-        row_false (from / low.count) (from % low.count) low.count p none (omega arith) (omega (arith, div-add-mod from low.count)) (omega arith)
-
     pub row-goal : (a : ℕ) → IsGoal high (from / low.count) → IsNextGoal low (from % low.count) a
         → IsNextGoal (product_coordinate low high) from (a + low.count * (from / low.count))
     row-goal a goal next =

@@ -39,20 +39,6 @@ impl<L: Coord, H: Coord> Product<L, H> {
 }
 
 impl<L: Coord, H: Coord> Product<L, H> {
-    /// Two positions, or one of them and none, as one position.
-    #[inline]
-    fn side_by_side(&self, low: Option<u32>, high: Option<u32>) -> Option<u32>
-        requires low { IfSome low (λ a. a < (L.coordinate self.now.low).count) }
-        requires high { IfSome high (λ b. b < (H.coordinate self.now.high).count) }
-        ensures both { result ≡ side_by_side (L.coordinate self.now.low).count low high }
-        ensures below { IfSome result (λ both. both < (L.coordinate self.now.low).count * (H.coordinate self.now.high).count) }
-    {
-        let low = low?;
-        let high = high?;
-        let both = low + self.low.count() * high;
-        Some(both)
-    }
-
     /// Enters the values that a turn leads to from the positions with this high part, as far as they are among those
     /// that are asked for, `start` first.
     fn look_along_row(&self, values: &[u8], high: u32, turn: u32, start: u32, into: &mut [u8])
@@ -128,20 +114,6 @@ impl<L: Coord, H: Coord> Product<L, H> {
         let goal = low + low_count * row;
         Some(goal)
     }
-
-    /// The first goal with this high part, which is at most that of the last position and one, or a greater one.
-    fn goal_from_row(&self, row: u32) -> Option<u32>
-        requires { row ≤ (H.coordinate self.now.high).count }
-        ensures goal { let n = (L.coordinate self.now.low).count in
-            IfSome result (IsNextGoal (product_coordinate (L.coordinate self.now.low) (H.coordinate self.now.high)) (n * row)) }
-        ensures none { let n = (L.coordinate self.now.low).count in let m = (H.coordinate self.now.high).count in
-            IfNone result (HasNoGoal (product_coordinate (L.coordinate self.now.low) (H.coordinate self.now.high)) (n * row) (n * m)) }
-    {
-        let high = self.high.next_goal(row)?;
-        let low = self.low.next_goal(0)?;
-        let goal = low + self.low.count() * high;
-        Some(goal)
-    }
 }
 
 impl Product<MoveTable, MoveTable> {
@@ -183,7 +155,7 @@ impl<L: Coord, H: Coord> Coord for Product<L, H> {
         let low_count = self.low.count();
         let low = self.low.after(position % low_count, turn);
         let high = self.high.after(position / low_count, turn);
-        self.side_by_side(low, high)
+        Some(low? + low_count * high?)
     }
 
     // Positions with the same high part are a row, for which the high part is turned once. What the turn leads to from
@@ -212,7 +184,12 @@ impl<L: Coord, H: Coord> Coord for Product<L, H> {
         }
         match self.goal_in_row(from) {
             Some(goal) => Some(goal),
-            None => self.goal_from_row(from / self.low.count() + 1),
+            None => {
+                let low_count = self.low.count();
+                let high = self.high.next_goal(from / low_count + 1)?;
+                let low = self.low.next_goal(0)?;
+                Some(low + low_count * high)
+            }
         }
     }
 }

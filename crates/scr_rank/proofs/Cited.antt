@@ -6,7 +6,7 @@ use Rattle.scr_combinatorics.proofs.Pairings.{IsPairing-at, pairing_number-at, p
 use Rattle.scr_combinatorics.proofs.PermutationNumbers.{IsPermutation-at, nth_except-above, nth_except-below, permutation_number-at, permutation_number-lt, permutations_one_to_one}
 use Rattle.scr_combinatorics.proofs.PlaceSets.{IsPlaceSet-at, binomial-above, place_set_number-at, place_set_number-lt, place_sets_one_to_one}
 use Rattle.scr_combinatorics.proofs.Twists.{twists_number-at, twists_number-lt, twists_one_to_one}
-use Rattle.scr_rank.proofs.DigitSteps.{pow_small}
+use Rattle.scr_rank.proofs.DigitSteps.{pow_small, ranked_by as ranked_by-of-DigitSteps}
 use Rattle.scr_rank.proofs.MixedSteps.{base-pos, length-digits, product-drop, product-pos, product_more, ranked_by}
 use Rattle.scr_rank.proofs.PairingSteps.{IsPairing-unranked, WrittenPairs-end, WrittenRest-end, rank_end, rank_step, unranked_end, unranked_more}
 use Rattle.scr_rank.proofs.PermutationSteps.{factorial-small, inversions-drop, inversions-small, unrank_end as unrank_end-of-PermutationSteps, unrank_room, unrank_start, unrank_step}
@@ -14,27 +14,21 @@ use Rattle.scr_rank.proofs.PlaceSetSteps.{binomial-small, count_small, count_ste
 use Rattle.std.proofs.Common.{add-one}
 use Rattle.std.proofs.lemmas.List.{get_or-take, length-replicate}
 
-pub ruleset twist_rank_rank = (twists_number-lt)
+pub ruleset twist_rank_rank = (twists_number-lt, ranked_by-of-DigitSteps)
 
 pub ruleset twist_rank_unrank = (pow_small, length-replicate, twists_one_to_one, twists_number-at, only_one)
 
+pub ruleset count = (product-drop, product_more)
+
 pub ruleset new = (product-pos)
 
-pub ruleset mixed_radix_rank = (mixed_number-lt)
+pub ruleset mixed_radix_rank = (mixed_number-lt, ranked_by, length-digits)
 
-pub ruleset mixed_radix_unrank = (AreDigits-mixed_digits, mixed_number-mixed_digits, mixed_number-at, only_one, digits_one_to_one)
+pub ruleset mixed_radix_unrank = (AreDigits-mixed_digits, mixed_number-mixed_digits, mixed_number-at, only_one, digits_one_to_one, base-pos)
 
-pub ruleset product_of = (product-drop, product_more)
+pub ruleset pairing8_rank = (rank_step, rank_end, pairing_number-lt)
 
-pub ruleset rank_digits = (ranked_by, length-digits)
-
-pub ruleset unrank_digits = (base-pos)
-
-pub ruleset pairing8_unrank = (IsPairing-at, pairing_number-at, only_one, pairings_one_to_one)
-
-pub ruleset rank_pairing = (rank_step, rank_end, pairing_number-lt)
-
-pub ruleset unrank_pairing = (IsPairing-unranked, unranked_more, unranked_end)
+pub ruleset pairing8_unrank = (IsPairing-at, pairing_number-at, only_one, pairings_one_to_one, IsPairing-unranked, unranked_more, unranked_end)
 
 pub ruleset with_first_pair = (WrittenPairs-end)
 

@@ -2,45 +2,6 @@
 ghost use Rattle.std.specs.Prelude.{◌≡◌, ℕ, ◌-◌, ◌^◌, ◌/◌, ◌%◌, ◌<◌, ◌≤◌, List, length, slice_index};
 ghost use Rattle.scr_combinatorics.specs.Twists.{IsTwists, twists_number, twists_at};
 
-/// The number that all digits but the last one write, the least digit first.
-#[inline]
-#[tactic(auto, using(crate::proofs::DigitSteps::ranked_by))]
-pub fn rank_twists(digits: &[u8], base: u8) -> u64
-    requires some { (1 ≤ length digits.now) × (length digits.now ≤ 12) }
-    requires base { base ≤ 12 }
-    requires valid { IsTwists (length digits.now) base digits.now }
-    ensures { result ≡ twists_number base digits.now }
-{
-    let mut number: u64 = 0;
-    for place in (0..digits.len() - 1).rev() {
-        number = number * u64::from(base) + u64::from(digits[place]);
-    }
-    number
-}
-
-/// Fills `out` with the digits that write this number, the least one first, and with the last digit
-/// that makes their sum 0 modulo the base.
-#[inline]
-pub fn unrank_twists(number: u64, base: u8, out: &mut [u8])
-    requires some { (1 ≤ length out.old) × (length out.old ≤ 12) }
-    requires base { (1 ≤ base) × (base ≤ 12) }
-    requires below { number < base ^ (length out.old - 1) }
-    ensures list { out.new ≡ twists_at (length out.old) base number }
-    ensures valid { IsTwists (length out.old) base out.new }
-    ensures number { twists_number base out.new ≡ number }
-{
-    let last = out.len() - 1;
-    let mut rest = number;
-    let mut sum: u8 = 0;
-    for place in 0..last {
-        let digit = (rest % u64::from(base)) as u8;
-        rest /= u64::from(base);
-        out[place] = digit;
-        sum = (sum + digit) % base;
-    }
-    out[last] = (base - sum) % base;
-}
-
 /// The lists of `N` digits below `BASE` whose sum is 0 modulo `BASE`: place `k` has digit `k` of the
 /// number, the least first, and the last place is fixed by the sum. There are `BASE^(N - 1)` of them.
 pub struct TwistRank<const N: usize, const BASE: usize>;
@@ -56,7 +17,11 @@ impl<const N: usize, const BASE: usize> TwistRank<N, BASE> {
         ensures number { result ≡ twists_number BASE value.now }
         ensures below { result < BASE ^ (N - 1) }
     {
-        u128::from(rank_twists(&value[..], BASE as u8))
+        let mut number: u64 = 0;
+        for place in (0..N - 1).rev() {
+            number = number * BASE as u64 + u64::from(value[place]);
+        }
+        u128::from(number)
     }
 
     /// The list of digits with a number below `BASE^(N - 1)`, for `N` and `BASE` from 1 to 12.
@@ -74,7 +39,15 @@ impl<const N: usize, const BASE: usize> TwistRank<N, BASE> {
             → IsTwists N BASE value → twists_number BASE value ≡ number → result ≡ value }
     {
         let mut out = [0; N];
-        unrank_twists(number as u64, BASE as u8, &mut out[..]);
+        let mut rest = number as u64;
+        let mut sum: u8 = 0;
+        for place in 0..N - 1 {
+            let digit = (rest % BASE as u64) as u8;
+            rest /= BASE as u64;
+            out[place] = digit;
+            sum = (sum + digit) % BASE as u8;
+        }
+        out[N - 1] = (BASE as u8 - sum) % BASE as u8;
         out
     }
 }

@@ -6,8 +6,7 @@
 //! list is its number, below the count. What a number means is defined in `scr_combinatorics`, on which alone the crate
 //! stands; that each numbering is one to one, and which order it has, is stated in `scr_laws`.
 //!
-//! The calls allocate nothing and use no table. The types are thin shells over functions on slices,
-//! which are public where a puzzle numbers lists of its own.
+//! The calls allocate nothing and use no table. Functions on slices are public where a puzzle numbers lists of its own.
 #![tactic(auto)]
 
 pub mod digits;

@@ -31,12 +31,17 @@ impl<const D: usize> MixedRadix<D> {
     }
 
     /// How many lists of digits there are: the product of the bases.
+    #[tactic(auto, using(crate::proofs::Cited::count))]
     pub fn count(&self) -> u128
         ensures count { result ≡ product self.now }
         ensures some { 0 < result }
         ensures fits { result ≤ 2 ^ 96 }
     {
-        product_of(&self.bases[..])
+        let mut count: u128 = 1;
+        for place in (0..D).rev() {
+            count *= self.bases[place];
+        }
+        count
     }
 
     /// The number of a list of digits, below `count`.
@@ -46,7 +51,11 @@ impl<const D: usize> MixedRadix<D> {
         ensures number { result ≡ mixed_number self.now value.now }
         ensures below { result < product self.now }
     {
-        rank_digits(&self.bases[..], &value[..])
+        let mut number: u128 = 0;
+        for place in (0..D).rev() {
+            number = number * self.bases[place] + value[place];
+        }
+        number
     }
 
     /// The list of digits with a number below `count`.
@@ -62,51 +71,12 @@ impl<const D: usize> MixedRadix<D> {
             → AreDigits self.now value → mixed_number self.now value ≡ number → result ≡ value }
     {
         let mut out = [0; D];
-        unrank_digits(&self.bases[..], number, &mut out[..]);
+        let mut rest = number;
+        for place in 0..D {
+            out[place] = rest % self.bases[place];
+            rest /= self.bases[place];
+        }
         out
-    }
-}
-
-/// The product of `bases`.
-#[tactic(auto, using(crate::proofs::Cited::product_of))]
-fn product_of(bases: &[u128]) -> u128
-    requires some { 0 < product bases.now }
-    requires fits { product bases.now ≤ 2 ^ 96 }
-    ensures { result ≡ product bases.now }
-{
-    let mut count: u128 = 1;
-    for place in (0..bases.len()).rev() {
-        count *= bases[place];
-    }
-    count
-}
-
-/// The number that mixed digits write, the first digit the least.
-#[tactic(auto, using(crate::proofs::Cited::rank_digits))]
-fn rank_digits(bases: &[u128], digits: &[u128]) -> u128
-    requires fits { product bases.now ≤ 2 ^ 96 }
-    requires some { 0 < product bases.now }
-    requires valid { AreDigits bases.now digits.now }
-    ensures { result ≡ mixed_number bases.now digits.now }
-{
-    let mut number: u128 = 0;
-    for place in (0..bases.len()).rev() {
-        number = number * bases[place] + digits[place];
-    }
-    number
-}
-
-/// Fills `out` with the mixed digits that write `number`, the first digit the least.
-#[tactic(auto, using(crate::proofs::Cited::unrank_digits))]
-fn unrank_digits(bases: &[u128], number: u128, out: &mut [u128])
-    requires same_length { length out.old ≡ length bases.now }
-    requires below { number < product bases.now }
-    ensures { out.new ≡ mixed_digits bases.now number }
-{
-    let mut rest = number;
-    for place in 0..bases.len() {
-        out[place] = rest % bases[place];
-        rest /= bases[place];
     }
 }
 
@@ -116,17 +86,8 @@ pub fn in_bytes<const D: usize>(digits: &[u128; D]) -> [u8; D]
     ensures { result ≡ digits.now }
 {
     let mut bytes = [0; D];
-    fill_bytes(&digits[..], &mut bytes[..]);
-    bytes
-}
-
-/// Fills `bytes` with `digits`.
-fn fill_bytes(digits: &[u128], bytes: &mut [u8])
-    requires same_length { length bytes.old ≡ length digits.now }
-    requires below { All (λ digit. digit < 256) digits.now }
-    ensures { bytes.new ≡ digits.now }
-{
-    for place in 0..bytes.len() {
+    for place in 0..D {
         bytes[place] = digits[place] as u8;
     }
+    bytes
 }

@@ -19,14 +19,6 @@ fn other_place(partner: u8, index: u8) -> u8
     }
 }
 
-/// Which of these places a place is.
-#[inline]
-fn place_among_others(partner: u8, place: u8) -> u8
-    ensures { result ≡ place_among_others partner place }
-{
-    place.saturating_sub(if place <= partner { 1 } else { 2 })
-}
-
 /// The pairing of two places more than `rest` pairs, in which the first place has the partner `partner + 1`.
 #[tactic(auto, using(crate::proofs::Cited::with_first_pair))]
 fn with_first_pair(rest: &[u8; PLACES], places: usize, partner: u8) -> [u8; PLACES]
@@ -55,43 +47,10 @@ fn without_first_pair(partners: &[u8; PLACES], places: usize) -> [u8; PLACES]
     let partner = partners[0] - 1;
     let mut rest = [0; PLACES];
     for index in 0..places {
-        let place = usize::from(other_place(partner, index as u8));
-        rest[index] = place_among_others(partner, partners[place]);
+        let place = partners[usize::from(other_place(partner, index as u8))];
+        rest[index] = place.saturating_sub(if place <= partner { 1 } else { 2 });
     }
     rest
-}
-
-/// The number of a pairing of eight places.
-#[tactic(auto, using(crate::proofs::Cited::rank_pairing))]
-fn rank_pairing(partners: &[u8; PLACES]) -> u8
-    requires { IsPairing 8 partners.now }
-    ensures number { result ≡ pairing_number 4 partners.now }
-    ensures below { result < 105 }
-{
-    let mut number = 0;
-    let mut rest = *partners;
-    for pairs in (0..PLACES / 2).rev() {
-        let partner = rest[0] - 1;
-        number = number * (2 * pairs as u8 + 1) + partner;
-        rest = without_first_pair(&rest, 2 * pairs);
-    }
-    number
-}
-
-/// The pairing of eight places that has this number.
-#[tactic(auto, using(crate::proofs::Cited::unrank_pairing), unfolding(scr_combinatorics::specs::Pairings::pairing_at))]
-fn unrank_pairing(number: u8) -> [u8; PLACES]
-    requires { number < 105 }
-    ensures { result ≡ pairing_at 4 number }
-{
-    let mut partners = [0; PLACES];
-    let mut left = number;
-    for pairs in 0..PLACES / 2 {
-        let choices = 2 * pairs as u8 + 1;
-        partners = with_first_pair(&partners, 2 * pairs, left % choices);
-        left /= choices;
-    }
-    partners
 }
 
 /// The ways to put eight places into four pairs, as the list of each place's partner, in dictionary order: 105 of them.
@@ -99,16 +58,24 @@ pub struct Pairing8;
 
 impl Pairing8 {
     /// The number of a pairing, below 105.
+    #[tactic(auto, using(crate::proofs::Cited::pairing8_rank))]
     pub fn rank(value: &[u8; 8]) -> u128
         requires valid { IsPairing 8 value.now }
         ensures number { result ≡ pairing_number 4 value.now }
         ensures below { result < 105 }
     {
-        u128::from(rank_pairing(value))
+        let mut number = 0;
+        let mut rest = *value;
+        for pairs in (0..PLACES / 2).rev() {
+            let partner = rest[0] - 1;
+            number = number * (2 * pairs as u8 + 1) + partner;
+            rest = without_first_pair(&rest, 2 * pairs);
+        }
+        u128::from(number)
     }
 
     /// The pairing with a number below 105: `unrank` undoes `rank`.
-    #[tactic(auto, using(crate::proofs::Cited::pairing8_unrank))]
+    #[tactic(auto, using(crate::proofs::Cited::pairing8_unrank), unfolding(scr_combinatorics::specs::Pairings::pairing_at))]
     pub fn unrank(number: u128) -> [u8; 8]
         requires below { number < 105 }
         ensures list { result ≡ pairing_at 4 number }
@@ -116,6 +83,13 @@ impl Pairing8 {
         ensures number { pairing_number 4 result ≡ number }
         ensures inverse { (value : List ℕ) → IsPairing 8 value → pairing_number 4 value ≡ number → result ≡ value }
     {
-        unrank_pairing(number as u8)
+        let mut partners = [0; PLACES];
+        let mut left = number as u8;
+        for pairs in 0..PLACES / 2 {
+            let choices = 2 * pairs as u8 + 1;
+            partners = with_first_pair(&partners, 2 * pairs, left % choices);
+            left /= choices;
+        }
+        partners
     }
 }

@@ -1,15 +1,16 @@
 -- The scrambles of a group, read one after another.
 use Rattle.std.proofs.Common.{◌≡◌, ℕ, ◌+◌, ◌<◌, List, [], ◌∷◌, ◌++◌, length, take, drop, refl, sym, ap, subst, ◌∙◌, arith, get_or}
-use Rattle.std.specs.Prelude.{All, slice_set}
+use Rattle.std.specs.Prelude.{Option, Some, None, All, slice_set}
 use Rattle.std.proofs.lemmas.List.{take_more_set, take_all, drop_all, drop_more, take_more, map-append}
 use Rattle.scr_notation.specs.declared.event.Event.{Event}
 use Rattle.scr_notation.specs.declared.turn.Turn.{Turn}
 use Rattle.scr_notation.specs.Written.{Written}
 use Rattle.scr_notation.specs.Event.{per_group_of}
+use Rattle.scr_read.specs.declared.piece.Piece.{Piece}
 use Rattle.scr_read.specs.declared.piece.Piece.TheVariants as piece
 use Rattle.scr_read.specs.Reading.{slot_pieces}
 use Rattle.scr_read.specs.Groups.{scrambles_of}
-use Rattle.scr_read.specs.Left.{PiecesLeft, IsGroupNext}
+use Rattle.scr_read.specs.Left.{PiecesLeft, GivesPiece, IsGroupNext}
 use Rattle.scr_read.proofs.GroupLemmas.{IsScrambleOf, turns_of, all-scrambles_of, turns_of-scrambles_of}
 
 -- of a group that came next, so many slots were read into an array
@@ -48,7 +49,7 @@ module _ (event : Event) (before : PiecesLeft) (next : IsGroupNext event before.
   whole : count ≡ length next.group
   whole = all ∙ sym next.is.each_slot
 
-  pub ends : left.pieces ≡ piece.GroupEnd ∷ next.behind
+  ends : left.pieces ≡ piece.GroupEnd ∷ next.behind
   ends = grind (arith, drop_all, whole)
 
   pub scrambles_read : take (per_group_of event + 2) scrambles ≡ scrambles_of event next.group
@@ -60,6 +61,7 @@ module _ (event : Event) (before : PiecesLeft) (next : IsGroupNext event before.
   pub turns_read : turns_of (take (per_group_of event + 2) scrambles) ≡ next.group
   turns_read = ap turns_of scrambles_read ∙ turns_of-scrambles_of event next.group
 
-  pub left_behind : (after : PiecesLeft) → left.pieces ≡ piece.GroupEnd ∷ after.pieces → after.lines ≡ left.lines + 1
+  pub left_behind : (after : PiecesLeft) (answer : Option Piece) → GivesPiece left after answer
       → after ≡ record { pieces = next.behind; lines = before.lines + (length next.group + 1) }
-  left_behind after is lines = grind (arith, ends, whole)
+  left_behind after (Some x) gives = grind (arith, ends, whole)
+  left_behind after None gives = absurd (cc (ends))

@@ -124,7 +124,7 @@ fn read_group(
     for slot in 0..count {
         scrambles[slot] = read_slot(pieces);
     }
-    read_end(pieces);
+    let _end = pieces.next();
     SheetGroup::new(round, head.copied(), number, line, scrambles)
 }
 
@@ -138,13 +138,4 @@ fn read_slot(pieces: &mut SheetPieces) -> Scramble
         Some(Piece::Slot(scramble)) => scramble,
         _ => unreachable!("a scramble stands here"),
     }
-}
-
-/// Reads the end of a group, which comes next.
-fn read_end(pieces: &mut SheetPieces)
-    requires { (behind : List Read) × (pieces.old.pieces ≡ piece.GroupEnd ∷ behind) }
-    ensures pieces { pieces.old.pieces ≡ piece.GroupEnd ∷ pieces.new.pieces }
-    ensures lines { pieces.new.lines ≡ pieces.old.lines + 1 }
-{
-    let _end = pieces.next();
 }

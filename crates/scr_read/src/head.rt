@@ -1,6 +1,6 @@
 //! The heads of rounds.
 
-ghost use Rattle.std.specs.Prelude.{◌≡◌, ◌<◌, ◌≤◌, ◌↔◌, true, List, ℕ, IsTrue, IfSome, IsNone};
+ghost use Rattle.std.specs.Prelude.{◌≡◌, ◌<◌, ◌≤◌, true, List, ℕ, IfSome, IsNone};
 ghost use Rattle.scr_notation.specs.Event.{greatest_of};
 ghost use Rattle.scr_text.specs.Lines.{has_bytes};
 ghost use Rattle.scr_list.specs.Names.{IsName};
@@ -36,24 +36,16 @@ fn read_head_of(index: u32, event: Event, line: &[u8]) -> Option<Head>
     ensures found { IfSome result (λ head. IsHeading index line.now head) }
     ensures none { IsNone result → (head : HeadOf) → head.event ≡ event → IsHeading index line.now head → ⊥ }
 {
-    let greatest = greatest_of(event);
+    let greatest = match event.minima() {
+        Some(minima) => minima.greatest,
+        None => 0,
+    };
     for least in 0..greatest + 1 {
         if let Some(name) = read_name(index, event, least, line) {
             return Some(Head { event, least, name });
         }
     }
     None
-}
-
-/// The greatest minimum of an event's rounds; 0 where they have none.
-fn greatest_of(event: Event) -> u8
-    ensures value { result ≡ greatest_of event }
-    ensures few { result ≤ 15 }
-{
-    match event.minima() {
-        Some(minima) => minima.greatest,
-        None => 0,
-    }
 }
 
 /// The name in the head of a round of this event with this minimum.

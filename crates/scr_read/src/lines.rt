@@ -1,6 +1,6 @@
 //! The lines of a text, and what stands in them behind a front.
 
-ghost use Rattle.std.specs.Prelude.{◌≡◌, ◌++◌, ◌∷◌, List, ℕ, MatchOption};
+ghost use Rattle.std.specs.Prelude.{◌≡◌, ◌++◌, ◌∷◌, MatchOption};
 ghost use Rattle.scr_read.specs.Faults.{IsOneLine, Begins};
 
 use scr_text::line_feed;

@@ -3,7 +3,7 @@
 ghost use Rattle.std.specs.Prelude.{◌≡◌, ◌+◌, ◌-◌, ◌^◌, ◌<◌, List, length};
 ghost use Rattle.scr_read.specs.Sheets.{SheetRound, IsSheet};
 ghost use Rattle.scr_read.specs.Reading.{pieces_of};
-ghost use Rattle.scr_read.specs.Left.{AreLeft, OnlyPieces, OnlyPieces-prop, GivesPiece};
+ghost use Rattle.scr_read.specs.Left.{OnlyPieces, OnlyPieces-prop, GivesPiece};
 
 use crate::piece::Piece;
 use crate::reader::SheetReader;

@@ -1,11 +1,10 @@
 //! Where a reader stands in a sheet, and the lines that may stand there.
 
-ghost use Rattle.std.specs.Prelude.{◌≡◌, ◌↔◌, ◌+◌, ◌<◌, ◌≤◌, [], IsTrue, IfSome, IsNone, codes};
+ghost use Rattle.std.specs.Prelude.{◌↔◌, ◌+◌, ◌<◌, ◌≤◌, IsTrue, IfSome, IsNone};
 ghost use Rattle.scr_notation.specs.Event.{per_group_of};
 ghost use Rattle.scr_read.specs.Heads.{HeadOf};
 ghost use Rattle.scr_read.specs.Reading as spec;
 ghost use Rattle.scr_read.specs.Reading.{Between, IsHeading, IsWhole};
-ghost use Rattle.scr_read.specs.Faults.{Begins};
 ghost use Rattle.scr_read.specs.Places.{place_of, IsStand, ReadsHead, ReadsLine};
 ghost use Rattle.scr_read.specs.declared.place.Stand.TheVariants.{InGroup};
 
@@ -69,10 +68,7 @@ pub(crate) fn read_line(stand: Stand, line: &[u8]) -> Result<Step, SheetCause>
     ensures { ReadsLine (place_of stand) line.now result }
 {
     match stand {
-        Stand::Start => match read_round(0, line) {
-            Some(step) => Ok(step),
-            None => Err(SheetCause::Head),
-        },
+        Stand::Start => read_round(0, line).ok_or(SheetCause::Head),
         Stand::Between {
             rounds,
             event,
@@ -86,8 +82,17 @@ pub(crate) fn read_line(stand: Stand, line: &[u8]) -> Result<Step, SheetCause>
         } => {
             if slot < u32::from(event.per_group()) + 2 {
                 read_slot(rounds, event, groups, slot, line)
+            } else if line.is_empty() {
+                Ok(Step {
+                    piece: Piece::GroupEnd,
+                    next: Stand::Between {
+                        rounds,
+                        event,
+                        groups: groups + 1,
+                    },
+                })
             } else {
-                read_group_end(rounds, event, groups, line)
+                Err(SheetCause::GroupEnd)
             }
         }
     }
@@ -119,7 +124,10 @@ fn read_between(rounds: u32, event: Event, groups: u32, line: &[u8]) -> Result<S
     ensures { ReadsLine (Between rounds event groups) line.now result }
 {
     if behind("Round ", line).is_some() {
-        return read_next_round(rounds, event, groups, line);
+        if groups == 0 {
+            return Err(SheetCause::Head);
+        }
+        return read_round(rounds, line).ok_or(SheetCause::Head);
     }
     if groups < 26 && line == group_name(groups).as_str().as_bytes() {
         Ok(Step {
@@ -133,20 +141,6 @@ fn read_between(rounds: u32, event: Event, groups: u32, line: &[u8]) -> Result<S
         })
     } else {
         Err(SheetCause::Group)
-    }
-}
-
-/// Reads the head of another round.
-fn read_next_round(rounds: u32, event: Event, groups: u32, line: &[u8]) -> Result<Step, SheetCause>
-    requires { Begins (codes "Round ") line.now }
-    ensures { ReadsLine (Between rounds event groups) line.now result }
-{
-    if groups == 0 {
-        return Err(SheetCause::Head);
-    }
-    match read_round(rounds, line) {
-        Some(step) => Ok(step),
-        None => Err(SheetCause::Head),
     }
 }
 
@@ -177,24 +171,5 @@ fn read_slot(
             },
         }),
         None => Err(SheetCause::Scramble),
-    }
-}
-
-/// Reads the empty line behind the last slot of a group.
-fn read_group_end(rounds: u32, event: Event, groups: u32, line: &[u8]) -> Result<Step, SheetCause>
-    requires { groups < 26 }
-    ensures { ReadsLine (spec.InGroup rounds event groups []) line.now result }
-{
-    if line.is_empty() {
-        Ok(Step {
-            piece: Piece::GroupEnd,
-            next: Stand::Between {
-                rounds,
-                event,
-                groups: groups + 1,
-            },
-        })
-    } else {
-        Err(SheetCause::GroupEnd)
     }
 }

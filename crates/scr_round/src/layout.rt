@@ -3,14 +3,13 @@
 ghost use Rattle.std.specs.Prelude.{◌≡◌, ℕ, ◌+◌, ◌*◌, ◌≤◌, ◌<◌, Some, [], ◌∷◌, ◌++◌, length, codes, slice_get};
 ghost use Rattle.std.specs.Fmt.{decimal};
 ghost use Rattle.arrayvec.specs.ArrayString.{array_string_len};
-ghost use Rattle.scr_notation.specs.Event.{name_of};
-ghost use Rattle.scr_round.specs.Round.{slots_of, labels_from, group_lines, minimum_text, own_name_text, heading, round_lines};
+ghost use Rattle.scr_round.specs.Round.{slots_of, labels_from, minimum_text, heading, round_lines};
 ghost use Rattle.scr_round.specs.Round.{IsBelow, IsInRange};
 ghost use Rattle.scr_round.specs.SheetLine.{line_of};
 
 use arrayvec::ArrayString;
-use scr_list::{NAME_ROOM, Round};
-use scr_notation::{Event, Minima};
+use scr_list::Round;
+use scr_notation::Minima;
 use scr_text::decimal;
 
 /// A fixed text of a round has at most so many bytes.
@@ -64,7 +63,18 @@ pub fn line_at(index: u32, round: &Round, line: u32) -> SheetLine
     }
     let own = u32::from(round.event.per_group());
     let size = own + 4;
-    group_line(own, (line - 1) / size, (line - 1) % size)
+    let group = (line - 1) / size;
+    let place = (line - 1) % size;
+    if place == 0 {
+        return SheetLine::Fixed(group_name(group));
+    }
+    if place == own + 3 {
+        return SheetLine::Fixed(ArrayString::new());
+    }
+    SheetLine::Slot {
+        label: label(own, place - 1),
+        slot: group * (own + 2) + (place - 1),
+    }
 }
 
 /// The head of round `index` of a list, counted from 0. It says nothing of the number of groups.
@@ -72,23 +82,16 @@ pub fn heading(index: u32, round: &Round) -> ArrayString<FIXED_ROOM>
     requires { index < 256 }
     ensures { result.bytes ≡ heading index round.now }
 {
-    let mut head = head_text(index, round.event);
-    push_minimum(&mut head, round.event.minima(), round.least);
-    push_name(&mut head, &round.name);
-    head
-}
-
-/// The number of a round, from 1, and its event.
-fn head_text(index: u32, event: Event) -> ArrayString<FIXED_ROOM>
-    requires { index < 256 }
-    ensures bytes { result.bytes ≡ codes "Round " ++ decimal (index + 1) ++ codes ": " ++ name_of event }
-    ensures short { array_string_len result ≤ 40 }
-{
     let mut head = ArrayString::new();
     head.push_str("Round ");
     head.push_str(decimal(index + 1).as_str());
     head.push_str(": ");
-    head.push_str(event.name());
+    head.push_str(round.event.name());
+    push_minimum(&mut head, round.event.minima(), round.least);
+    if !round.name.is_empty() {
+        head.push_str(", ");
+        head.push_str(round.name.as_str());
+    }
     head
 }
 
@@ -104,37 +107,6 @@ fn push_minimum(head: &mut ArrayString<FIXED_ROOM>, minima: Option<Minima>, leas
             head.push_str(decimal(u32::from(least)).as_str());
         }
         None => head.push_str(", random moves"),
-    }
-}
-
-/// Adds the name of the round, where it has one.
-fn push_name(head: &mut ArrayString<FIXED_ROOM>, name: &ArrayString<NAME_ROOM>)
-    requires { array_string_len head.old ≤ 61 }
-    ensures { head.new.bytes ≡ head.old.bytes ++ own_name_text name.now.bytes }
-{
-    if !name.is_empty() {
-        head.push_str(", ");
-        head.push_str(name.as_str());
-    }
-}
-
-/// A line of a group, whose number from 0 is `group` and which has `own` scrambles besides the extra ones.
-fn group_line(own: u32, group: u32, place: u32) -> SheetLine
-    requires own { own ≤ 5 }
-    requires group { group < 26 }
-    requires place { place < own + 4 }
-    ensures value { slice_get (group_lines own (65 + group) (group * (own + 2))) place ≡ Some (line_of result) }
-    ensures slot { IsBelow ((group + 1) * (own + 2)) (line_of result) }
-{
-    if place == 0 {
-        return SheetLine::Fixed(group_name(group));
-    }
-    if place == own + 3 {
-        return SheetLine::Fixed(ArrayString::new());
-    }
-    SheetLine::Slot {
-        label: label(own, place - 1),
-        slot: group * (own + 2) + (place - 1),
     }
 }
 

@@ -25,10 +25,6 @@ count-beside : (b : Bool) (low high : Coordinate) → (beside b low high).count 
 count-beside false low high = refl
 count-beside true low high = omega arith
 
-pub below-beside : (b : Bool) (low high : Coordinate) (n m p all : ℕ) → low.count ≡ n → high.count ≡ m → p < n * m
-    → all ≡ (beside b low high).count → p < all
-below-beside b low high n m p all e f lt is = omega (arith, lt, is, count-beside b low high, ap (λ k. k * high.count) e, ap (λ k. n * k) f)
-
 -- what is asked of the moves that stand side by side
 pub fits-beside : (l h low high : Coordinate) (n m turns : ℕ) → l.turns ≡ turns → h.turns ≡ turns → l.count ≡ n
     → h.count ≡ m → ShowsSame l low → ShowsSame h high → n * m < 2 ^ 32

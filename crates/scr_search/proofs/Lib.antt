@@ -9,3 +9,4 @@ pub mod Outcomes
 pub mod SearchSteps
 pub mod NearLaws
 pub mod NearBits
+pub mod Cited

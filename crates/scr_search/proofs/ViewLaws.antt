@@ -10,7 +10,7 @@ use Rattle.scr_cube.specs.Cube333.{CubeState}
 use Rattle.scr_cube.specs.ListedTurns.{cube_space, after_of}
 use Rattle.scr_search.specs.declared.position.Extent.{Extent}
 use Rattle.scr_search.specs.Orderly.{after_turn}
-use Rattle.scr_search.specs.Views.{AreViews, Sees, View, Views, index_beside, part_number, view_beside}
+use Rattle.scr_search.specs.Views.{AreViews, Sees, View, Views, part_number, view_beside}
 use Rattle.scr_search.proofs.Leads.{after_of-place}
 
 -- ---- views
@@ -54,20 +54,6 @@ module _ (v : Views) (view : View) (s : Sees v view) where
       let guarded : moved seen p place ≡ seen.after p place = ap (λ b. cond b (seen.after p place) None) (lt-ltb place seen.turns turn) in
       same.after p place here turn ∙ sym guarded ∙ ap (λ k. moved seen k place) at ∙ s.along.turned c place h
       ∙ ap (option_map view.number) (after_of-place v.turns c place lt ∙ to)
-
--- ---- positions
-
-same_index : (f : ℕ → ℕ → ℕ → ℕ → ℕ) (n n' m m' i i' j j' : ℕ) → n ≡ n' → m ≡ m' → i ≡ i' → j ≡ j'
-    → f n m i j ≡ f n' m' i' j'
-same_index f n n' m m' i i' j j' a b c d = cc
-
--- a position in a view beside that of the middle layer
-pub index-shown : (first : Bool) (own middle : View) (n m i j p : ℕ) (c : CubeState) → own.coordinate.count ≡ n
-    → middle.coordinate.count ≡ m → i ≡ own.number c → j ≡ middle.number c → p ≡ index_beside first n m i j
-    → p ≡ (view_beside first own middle).number c
-index-shown first own middle n m i j p c a b x y is =
-    is
-    ∙ same_index (index_beside first) n own.coordinate.count m middle.coordinate.count i (own.number c) j (middle.number c) (sym a) (sym b) x y
 
 -- ---- numbers
 

@@ -1,14 +1,12 @@
 //! Near sets: bit tables that have the numbers of all cubes from which few turns lead to the end of a part, and some
 //! others.
-ghost use Rattle.std.specs.Prelude.{◌≡◌, ℕ, ◌^◌, ◌<◌, ◌≤◌, IfOk, IsTrue, length, slice_index_or};
+ghost use Rattle.std.specs.Prelude.{◌≡◌, ℕ, ◌^◌, ◌<◌, ◌≤◌, IfOk, IsTrue, length};
 ghost use Rattle.scr_cube.specs.Cube333.{CubeState};
 ghost use Rattle.scr_search.specs.Near.{HasBits, IsInSet, IsNear, LeavesNear, first_bit, second_bit, word_of};
-ghost use Rattle.scr_search.specs.Spread.{IsSpread};
-ghost use Rattle.scr_search.specs.declared.near_set.NearBlock.{NearBlock as Block};
 ghost use Rattle.scr_search.specs.TurnSets.{contains_turn};
 ghost use Rattle.scr_search.specs.Views.{AreViews, Shows};
 
-use crate::numbers::{Listed, Numbers, numbers_within, spread};
+use crate::numbers::{Numbers, numbers_within, spread};
 use crate::part::Part;
 use crate::position::{BLOCK, PartPosition};
 use crate::search_tables::SearchTables;
@@ -36,7 +34,7 @@ pub struct NearBlock {
 /// A near set: its blocks, each with its numbers. It has the numbers of any other block too.
 #[derive(Drop)]
 pub struct NearSet {
-    /// The blocks, each of 2^32 numbers, in order.
+    /// The blocks, each of 2^32 numbers, in order. Without any it has all numbers, and leaves out nothing.
     pub blocks: Vec<NearBlock>,
 }
 
@@ -70,30 +68,9 @@ impl Seat {
 impl NearBlock {
     /// No number.
     const EMPTY: NearBlock = NearBlock { words: [0; WORDS] };
-
-    /// Whether it has a number.
-    #[inline]
-    fn has(&self, number: u32) -> bool
-        ensures { HasBits self.now.words number → IsTrue result }
-    {
-        let seat = Seat::of(number);
-        let word = self.words[seat.word];
-        let first = word >> seat.first & 1;
-        let second = word >> seat.second & 1;
-        first & second == 1
-    }
 }
 
 impl NearSet {
-    /// The set of all numbers, which leaves out nothing.
-    pub fn of_all(alloc: Global) -> NearSet
-        ensures { (number : ℕ) → IsInSet result number }
-    {
-        NearSet {
-            blocks: Vec::new(alloc),
-        }
-    }
-
     /// The set of the cubes from which a word of at most `most` turns leads to an end, made by 1 to 64 workers.
     pub fn build<R: Threads + Sync, P: Part + Sync>(
         rt: &R,
@@ -109,19 +86,33 @@ impl NearSet {
         let extent = P::extent();
         let lists = numbers_within(rt, alloc, tables, most - 1, workers)?;
         let mut blocks = vec![in alloc; NearBlock::EMPTY; extent.middles as usize]?;
-        fill(rt, tables, &lists[..], &mut blocks[..], workers);
+        // Into each block go the numbers in it of the listed cubes, and of those to which one turn more leads.
+        let lists = &lists[..];
+        for_each_mut(
+            rt,
+            &mut blocks[..],
+            workers as usize,
+            &|block: usize, into: &mut NearBlock|
+                requires { block < 2 ^ 16 }
+            { spread(tables, lists, block as u32, into) },
+        );
         Ok(NearSet { blocks })
     }
 
     /// Whether it has a number.
     #[inline]
+    #[tactic(auto, using(crate::proofs::Cited::has))]
     pub fn has(&self, number: u64) -> bool
         ensures { IsInSet self.now number → IsTrue result }
     {
-        match self.blocks.get((number / BLOCK) as usize) {
-            Some(block) => block.has((number % BLOCK) as u32),
-            None => true,
-        }
+        let Some(block) = self.blocks.get((number / BLOCK) as usize) else {
+            return true;
+        };
+        let seat = Seat::of((number % BLOCK) as u32);
+        let word = block.words[seat.word];
+        let first = word >> seat.first & 1;
+        let second = word >> seat.second & 1;
+        first & second == 1
     }
 
     /// Of some turns those that lead from a position to a number that it has.
@@ -150,29 +141,6 @@ impl NearSet {
         }
         into
     }
-}
-
-/// Enters into each block the numbers in it of the listed cubes, and of those to which one turn more leads.
-fn fill<R: Threads + Sync, P: Part + Sync>(
-    rt: &R,
-    tables: &SearchTables<P>,
-    lists: &[Listed],
-    blocks: &mut [NearBlock],
-    workers: u32,
-)
-    requires few { length blocks.old ≤ 2 ^ 16 }
-    requires workers { (1 ≤ workers) × (workers ≤ 64) }
-    ensures { (k : ℕ) (d : Block) → k < length blocks.old
-        → IsSpread P.views lists.now k (HasBits (slice_index_or blocks.new k d).words) }
-{
-    for_each_mut(
-        rt,
-        blocks,
-        workers as usize,
-        &|block: usize, into: &mut NearBlock|
-            requires { block < 2 ^ 16 }
-        { spread(tables, lists, block as u32, into) },
-    );
 }
 
 impl Numbers for NearBlock {

@@ -50,21 +50,6 @@ impl Numbers for Growing {
     }
 }
 
-impl Growing {
-    /// The numbers in order, each once.
-    fn in_order(self) -> Result<Vec<u32>, AllocError>
-        ensures { IfOk result (λ all. (number : ℕ) → (self.is_cut ≡ false → Contains self.numbers.items number) → Contains all.items number) }
-    {
-        if self.is_cut {
-            return Err(AllocError);
-        }
-        let mut all = self.numbers;
-        all.sort_unstable();
-        all.dedup();
-        Ok(all)
-    }
-}
-
 /// Enters those of the listed numbers that are of a block, and those of its cubes from which one turn leads to a listed
 /// one.
 pub(crate) fn spread<P: Part, N: Numbers>(
@@ -160,20 +145,13 @@ fn end_alone<P: Part>(alloc: Global) -> Result<Vec<Listed>, AllocError>
     let extent = P::extent();
     let mut all = Vec::new(alloc);
     for block in 0..extent.middles {
-        all.push(Some(Ok(alone(alloc, extent.end, block)?)))?;
+        let mut list = Vec::new(alloc);
+        if extent.end / BLOCK == u64::from(block) {
+            list.push((extent.end % BLOCK) as u32)?;
+        }
+        all.push(Some(Ok(list)))?;
     }
     Ok(all)
-}
-
-/// A number, if it is of a block.
-fn alone(alloc: Global, number: u64, block: u32) -> Result<Vec<u32>, AllocError>
-    ensures { IfOk result (λ list. number / 2 ^ 32 ≡ block → Contains list.items (number % 2 ^ 32)) }
-{
-    let mut list = Vec::new(alloc);
-    if number / BLOCK == u64::from(block) {
-        list.push((number % BLOCK) as u32)?;
-    }
-    Ok(list)
 }
 
 /// So many blocks, of which nothing is listed.
@@ -212,7 +190,14 @@ impl<P: Part> Jobs for OneTurnMore<'_, P> {
             is_cut: false,
         };
         spread(self.tables, self.lists, slot, &mut into);
-        into.in_order()
+        if into.is_cut {
+            return Err(AllocError);
+        }
+        // In order, each once.
+        let mut all = into.numbers;
+        all.sort_unstable();
+        all.dedup();
+        Ok(all)
     }
 }
 
@@ -238,30 +223,13 @@ fn one_turn_more<R: Threads + Sync, P: Part + Sync>(
         alloc,
         lists,
     };
-    if list_each(rt, &jobs, &mut all[..], workers) {
+    let blocks = &mut all[..];
+    run_chunks(rt, &jobs, blocks, workers, &OpenGate);
+    if are_all_there(blocks) {
         Ok(all)
     } else {
         Err(AllocError)
     }
-}
-
-/// Lists the numbers of each block, if there is memory for all.
-fn list_each<R: Threads + Sync, P: Part + Sync>(
-    rt: &R,
-    jobs: &OneTurnMore<P>,
-    all: &mut [Listed],
-    workers: u32,
-) -> bool
-    requires views { AreViews P.views P.extent }
-    requires workers { (1 ≤ workers) × (workers ≤ 64) }
-    requires blocks { length all.old ≡ length jobs.now.lists.now }
-    requires few { length all.old ≤ 2 ^ 16 }
-    requires every { (c : CubeState) → P.views.IsSeen c → part_number P.views c / 2 ^ 32 < length all.old }
-    ensures { (most : ℕ) → IsTrue result → IsNear P.views most (IsListed jobs.now.lists.now)
-        → IsNear P.views (most + 1) (IsListed all.new) }
-{
-    run_chunks(rt, jobs, all, workers, &OpenGate);
-    are_all_there(all)
 }
 
 /// Whether the numbers of each block were found.
@@ -269,16 +237,9 @@ fn are_all_there(lists: &[Listed]) -> bool
     ensures { IsTrue result → (k : ℕ) → k < length lists.now → IsThere (slice_index_or lists.now k None) }
 {
     for block in 0..lists.len() {
-        if !is_there(&lists[block]) {
+        let Some(Ok(_)) = &lists[block] else {
             return false;
-        }
+        };
     }
     true
-}
-
-/// Whether numbers were found.
-fn is_there(list: &Listed) -> bool
-    ensures { IsTrue result → IsThere list.now }
-{
-    matches!(list, Some(Ok(_)))
 }

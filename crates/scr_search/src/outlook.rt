@@ -1,6 +1,6 @@
 //! Which turns lead nearer to the goal of a pruning table, and which lead no farther.
-ghost use Rattle.std.specs.Prelude.{◌≡◌, ℕ, ◌+◌, ◌-◌, ◌*◌, ◌^◌, ◌<◌, ◌≤◌, IfOk, length, slice_index, slice_index_or};
-ghost use Rattle.scr_positions.specs.Coordinates.{AreSeen, value_at};
+ghost use Rattle.std.specs.Prelude.{◌≡◌, ℕ, ◌+◌, ◌-◌, ◌^◌, ◌<◌, ◌≤◌, IfOk, length, slice_index, slice_index_or};
+ghost use Rattle.scr_positions.specs.Coordinates.{AreSeen};
 ghost use Rattle.scr_search.specs.declared.outlook.Found.{Found as Finding};
 ghost use Rattle.scr_search.specs.declared.outlook.Outlook.{Outlook as Looking};
 ghost use Rattle.scr_search.specs.Outlooks.{turns_within, AreFound, IsOutlook, AreOutlooks};
@@ -85,8 +85,20 @@ pub(crate) fn outlooks<R: Threads + Sync, C: Coord + Sync>(
     ensures { IfOk result (λ all. AreOutlooks (C.coordinate coord.now) table.now.distances all.items) }
 {
     let distances = distances_of(rt, alloc, table, workers)?;
+    let distances = &distances[..];
     let mut all = vec![in alloc; UNSEEN; distances.len()]?;
-    look_out(rt, coord, &distances[..], &mut all[..], workers);
+    let into = &mut all[..];
+    for_each_chunk_mut(
+        rt,
+        into,
+        chunk_size(into.len(), workers),
+        &|start: usize, part: &mut [Outlook]|
+            requires turns { (C.coordinate coord.now).turns ≤ 18 }
+            requires distances { length distances.now ≡ (C.coordinate coord.now).count }
+            requires small { (p : ℕ) → slice_index distances.now p ≤ GREATEST_BOUND }
+            requires positions { start + length part.old ≤ (C.coordinate coord.now).count }
+        { look_out_from(coord, distances, start, part) },
+    );
     Ok(all)
 }
 
@@ -102,7 +114,15 @@ fn distances_of<R: Threads + Sync>(
     ensures small { IfOk result (λ distances. (p : ℕ) → slice_index distances.items p ≤ GREATEST_BOUND) }
 {
     let mut distances = vec![in alloc; 0; table.positions() as usize]?;
-    read_distances(rt, table, &mut distances[..], workers);
+    let into = &mut distances[..];
+    for_each_chunk_mut(
+        rt,
+        into,
+        chunk_size(into.len(), workers),
+        &|start: usize, part: &mut [u8]|
+            requires { start + length part.old ≤ length table.now.distances }
+        { read_from(table, start, part) },
+    );
     Ok(distances)
 }
 
@@ -112,23 +132,6 @@ fn chunk_size(places: usize, workers: u32) -> usize
     ensures { 1 ≤ result }
 {
     places.div_ceil(workers as usize).max(1)
-}
-
-/// Reads the distances of a table, as many as there are places.
-fn read_distances<R: Threads + Sync>(rt: &R, table: &DistanceTable, into: &mut [u8], workers: u32)
-    requires positions { length into.old ≡ length table.now.distances }
-    requires workers { (1 ≤ workers) × (workers ≤ 64) }
-    ensures same { into.new ≡ table.now.distances }
-    ensures small { (p : ℕ) → slice_index into.new p ≤ GREATEST_BOUND }
-{
-    for_each_chunk_mut(
-        rt,
-        into,
-        chunk_size(into.len(), workers),
-        &|start: usize, part: &mut [u8]|
-            requires { start + length part.old ≤ length table.now.distances }
-        { read_from(table, start, part) },
-    );
 }
 
 /// Reads those of the positions from `start` on.
@@ -142,34 +145,6 @@ fn read_from(table: &DistanceTable, start: usize, into: &mut [u8])
     for k in 0..into.len() {
         into[k] = table.distance((start + k) as u32) as u8;
     }
-}
-
-/// Finds the outlook of each position, by 1 to 64 workers. Distances are at most `GREATEST_BOUND`.
-fn look_out<R: Threads + Sync, C: Coord + Sync>(
-    rt: &R,
-    coord: &C,
-    distances: &[u8],
-    all: &mut [Outlook],
-    workers: u32,
-)
-    requires turns { (C.coordinate coord.now).turns ≤ 18 }
-    requires distances { length distances.now ≡ (C.coordinate coord.now).count }
-    requires small { (p : ℕ) → slice_index distances.now p ≤ GREATEST_BOUND }
-    requires positions { length all.old ≡ (C.coordinate coord.now).count }
-    requires workers { (1 ≤ workers) × (workers ≤ 64) }
-    ensures { AreOutlooks (C.coordinate coord.now) distances.now all.new }
-{
-    for_each_chunk_mut(
-        rt,
-        all,
-        chunk_size(all.len(), workers),
-        &|start: usize, part: &mut [Outlook]|
-            requires turns { (C.coordinate coord.now).turns ≤ 18 }
-            requires distances { length distances.now ≡ (C.coordinate coord.now).count }
-            requires small { (p : ℕ) → slice_index distances.now p ≤ GREATEST_BOUND }
-            requires positions { start + length part.old ≤ (C.coordinate coord.now).count }
-        { look_out_from(coord, distances, start, part) },
-    );
 }
 
 /// Finds the outlooks of the positions from `start` on, so many at once.
@@ -186,7 +161,10 @@ fn look_out_from<C: Coord>(coord: &C, distances: &[u8], start: usize, into: &mut
         let size = (into.len() - first).min(AT_ONCE);
         let found = found_from(coord, distances, (start + first) as u32, size);
         for k in 0..size {
-            into[first + k] = outlook_of(coord, distances, start + first + k, found[k]);
+            into[first + k] = Outlook {
+                nearer: found[k].nearer.bits + (u32::from(distances[start + first + k]) << 18),
+                no_farther: found[k].no_farther.bits,
+            };
         }
     }
 }
@@ -233,55 +211,12 @@ fn enter_turn<C: Coord>(
         → AreFound (C.coordinate coord.now) distances.now (start + k) (turn + 1) (slice_index_or found.new k d) }
 {
     for k in 0..seen.len() {
-        found[k] = with_turn(
-            coord,
-            distances,
-            start as usize + k,
-            turn,
-            seen[k],
-            found[k],
-        );
-    }
-}
-
-/// What turns lead to from a position, with one turn more, which leads to this distance. Where it is barred it leads to
-/// `NOWHERE`, which is farther than all.
-#[inline]
-fn with_turn<C: Coord>(
-    _coord: &C,
-    distances: &[u8],
-    position: usize,
-    turn: u32,
-    there: u8,
-    found: Found,
-) -> Found
-    requires turns { (C.coordinate _coord.now).turns ≤ 18 }
-    requires distances { length distances.now ≡ (C.coordinate _coord.now).count }
-    requires position { position < (C.coordinate _coord.now).count }
-    requires turn { turn < (C.coordinate _coord.now).turns }
-    requires there { there ≡ value_at distances.now ((C.coordinate _coord.now).after position turn) }
-    requires found { AreFound (C.coordinate _coord.now) distances.now position turn found }
-    ensures { AreFound (C.coordinate _coord.now) distances.now position (turn + 1) result }
-{
-    let here = distances[position];
-    Found {
-        nearer: found.nearer.with_if(turn, there < here),
-        no_farther: found.no_farther.with_if(turn, there <= here),
-    }
-}
-
-/// The outlook of a position, by what all turns lead to.
-#[inline]
-fn outlook_of<C: Coord>(_coord: &C, distances: &[u8], position: usize, found: Found) -> Outlook
-    requires turns { (C.coordinate _coord.now).turns ≤ 18 }
-    requires distances { length distances.now ≡ (C.coordinate _coord.now).count }
-    requires small { (p : ℕ) → slice_index distances.now p ≤ GREATEST_BOUND }
-    requires position { position < (C.coordinate _coord.now).count }
-    requires found { let c = C.coordinate _coord.now in AreFound c distances.now position c.turns found }
-    ensures { IsOutlook (C.coordinate _coord.now) distances.now position result }
-{
-    Outlook {
-        nearer: found.nearer.bits + (u32::from(distances[position]) << 18),
-        no_farther: found.no_farther.bits,
+        // Where the turn is barred it leads to `NOWHERE`, which is farther than all.
+        let here = distances[start as usize + k];
+        let before = found[k];
+        found[k] = Found {
+            nearer: before.nearer.with_if(turn, seen[k] < here),
+            no_farther: before.no_farther.with_if(turn, seen[k] <= here),
+        };
     }
 }

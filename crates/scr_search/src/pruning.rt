@@ -1,5 +1,5 @@
 //! Pruning tables.
-ghost use Rattle.std.specs.Prelude.{◌≡◌, ◌*◌, ◌<◌, ◌≤◌, ◌^◌, IfErr, IfOk, length, slice_index};
+ghost use Rattle.std.specs.Prelude.{◌≡◌, ◌*◌, ◌<◌, ◌≤◌, ◌^◌, IfErr, IfOk, length};
 ghost use Rattle.scr_positions.specs.Coordinates.{Coordinate};
 ghost use Rattle.scr_positions.specs.Moves.{moves_coordinate};
 ghost use Rattle.scr_positions.specs.SearchSpaces.{ShowsSame};
@@ -48,15 +48,6 @@ impl PruningTable {
             distances,
             outlooks: Vec::new(alloc),
         })
-    }
-
-    /// How many turns a word from a position to the goal has at least.
-    #[inline]
-    pub fn distance(&self, position: u32) -> u32
-        requires { position < length self.now.distances.distances }
-        ensures { result ≡ slice_index self.now.distances.distances position }
-    {
-        self.distances.distance(position)
     }
 
     /// The turns of which one may be the next from a position where `left` turns may still be made: by its outlook, and

@@ -42,7 +42,8 @@ impl<P: Part> Search<'_, P> {
         false
     }
 
-    /// Does so with the words that go on from it by `left` turns.
+    /// Does so with the words that go on from it by `left` turns: if that is none, with the word itself, which is a try
+    /// where it leads to an end of the part.
     fn behind(&self, word: &mut Word, at: PartPosition, left: u32, tries: &mut u32) -> bool
         requires views { AreViews P.views P.extent }
         requires at { IsAt P.views self.now.cube.now word.old at }
@@ -56,35 +57,21 @@ impl<P: Part> Search<'_, P> {
             return false;
         }
         if left == 0 {
-            return self.at_end(word, at, tries);
+            if SearchTables::<P>::number_of(at) != P::extent().end {
+                return false;
+            }
+            *tries -= 1;
+            return P::give(self.rest, self.cube, word);
         }
         let mut turns = self.tables.turns_behind(word, at, left);
         while let Some(place) = turns.pop() {
             let next = self.tables.after(at, place);
-            word.push(SearchTables::<P>::turn(place));
+            word.push(P::extent().numbers[place as usize]);
             if self.behind(word, next, left - 1, tries) {
                 return true;
             }
             word.pop();
         }
         false
-    }
-
-    /// Does so with the word itself: if it leads to an end of the part, this is a try.
-    #[inline]
-    fn at_end(&self, word: &mut Word, at: PartPosition, tries: &mut u32) -> bool
-        requires at { IsAt P.views self.now.cube.now word.old at }
-        requires last { IsTrue (ends_with P.views.is_last word.old) }
-        requires few { length word.old ≤ P.views.before + P.extent.most }
-        requires tries { 0 < tries.old }
-        ensures { IsSearched (P.gives self.now.cube.now)
-            (words_behind P.views.turns (is_whole P.views self.now.cube.now) word.old 0)
-            tries.old word.old result word.new tries.new }
-    {
-        if SearchTables::<P>::number_of(at) != P::extent().end {
-            return false;
-        }
-        *tries -= 1;
-        P::give(self.rest, self.cube, word)
     }
 }

@@ -83,7 +83,9 @@ impl<P: Part> SearchTables<P> {
             middle,
             one_slice,
             other_slice,
-            near: NearSet::of_all(alloc),
+            near: NearSet {
+                blocks: Vec::new(alloc),
+            },
             part: PhantomData,
         })
     }
@@ -168,7 +170,7 @@ impl<P: Part> SearchTables<P> {
         ensures { (c : CubeState) (n : ℕ) (w : List ℕ) → Shows P.views c at → n < result
             → Contains (words_of P.views.turns n) w → leads P.views.ends c w ≡ false }
     {
-        let by_one = self.one_slice.distance(Self::one_index(at));
+        let by_one = self.one_slice.distances.distance(Self::one_index(at));
         if self.near.has(Self::number_of(at)) {
             by_one
         } else {
@@ -198,16 +200,6 @@ impl<P: Part> SearchTables<P> {
         } else {
             turns
         }
-    }
-
-    /// The turn at a place.
-    #[inline]
-    pub(crate) fn turn(place: u32) -> u8
-        requires { place < length P.views.turns }
-        ensures turn { result ≡ slice_index P.views.turns place }
-        ensures below { result < 18 }
-    {
-        P::extent().numbers[place as usize]
     }
 
     /// Where the turn at a place leads.

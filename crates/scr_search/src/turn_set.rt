@@ -39,6 +39,7 @@ impl TurnSet {
 
     /// The turns that are in both.
     #[inline]
+    #[tactic(auto, using(crate::proofs::Cited::and))]
     pub fn and(self, other: TurnSet) -> TurnSet
         requires { self.bits < 2 ^ 18 }
         ensures turns { (t : ℕ)
@@ -52,6 +53,7 @@ impl TurnSet {
 
     /// Takes the lowest turn out, if there is one.
     #[inline]
+    #[tactic(auto, using(crate::proofs::Cited::pop))]
     pub fn pop(&mut self) -> Option<u32>
         requires { self.old.bits < 2 ^ 18 }
         ensures first { MatchOption result (turns_in self.old.bits ≡ []) (λ t. turns_in self.old.bits ≡ t ∷ turns_in self.new.bits) }

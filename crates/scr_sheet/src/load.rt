@@ -2,25 +2,22 @@
 //!
 //! The sheet is not written, and never held: each round is made, and its lines are counted.
 
-ghost use Rattle.std.specs.Prelude.{◌≡◌, ◌+◌, ◌*◌, ◌<◌, ◌≤◌, ℕ, List, [], ◌∷◌, ◌++◌, codes, length, sum, sum_by, All, MatchResult, IfOk, Err};
+ghost use Rattle.std.specs.Prelude.{◌≡◌, ◌+◌, ◌*◌, ◌<◌, ◌≤◌, ℕ, List, ◌++◌, codes, length, sum, sum_by, All, IfOk, Err};
 ghost use Rattle.scr_notation.specs.EventSets.{Has};
 ghost use Rattle.std.specs.Fmt.{decimal};
 ghost use Rattle.scr_outside.specs.Change.{change_of, Writes};
 ghost use Rattle.scr_list.specs.RoundLists.{IsRounds};
 ghost use Rattle.scr_command.specs.Command.{usual_options};
 ghost use Rattle.scr_slots.specs.Ranges.{AreInRange};
-ghost use Rattle.scr_sheet.specs.Sheet.{settings_of, round_part, round_parts};
+ghost use Rattle.scr_sheet.specs.Sheet.{settings_of, round_parts};
 ghost use Rattle.scr_sheet.specs.Load.{load_seed, load_round, load_rounds, load_text};
-ghost use Rattle.std.specs.Vec.{vec_len};
 ghost use Rattle.scr_round.specs.Round.{slots_of, line_text, round_text, IsBelow, IsInRange};
 ghost use Rattle.scr_round.specs.SheetLine.{line_of};
 ghost use Rattle.scr_round.specs.Made.{turns_of_each};
-ghost use Rattle.scr_sheet.specs.Making.{CanBeMade};
-ghost use Rattle.scr_sheet.specs.Room.{IsRoom, IsRoomFor, SpendsOne};
+ghost use Rattle.scr_sheet.specs.Room.{IsRoomFor};
 ghost use Rattle.scr_fault.specs.declared.fault.Fault.TheVariants.{NoMemory};
-ghost use Rattle.scr_sheet.specs.Outcome.{IsStopped};
 ghost use Rattle.scr_sheet.specs.Ready.{EndsAfter, IsReadyFor};
-ghost use Rattle.scr_sheet.specs.Sizes.{EndsSized, IsSizeOf, IsPartSize, SizesParts};
+ghost use Rattle.scr_sheet.specs.Sizes.{EndsSized, IsSizeOf, SizesParts};
 ghost use Rattle.scr_table.specs.declared.fault.BuildFault.TheVariants as build;
 
 use crate::making::Making;
@@ -138,32 +135,13 @@ fn rounds_size<R: Threads + Sync, G: Gate + Sync>(
 {
     let mut size = Size { bytes: 0, sum: 0 };
     for (index, round) in rounds.iter().enumerate() {
-        let more = size_in_room(making, room, index as u32, round)?;
+        let index = index as u32;
+        make_in_room(making, room, index, round)?;
+        let more = round_size(index, round, &room.scrambles);
         size.bytes += more.bytes;
         size.sum += more.sum;
     }
     Ok(size)
-}
-
-/// Makes a round, and gives what its text amounts to.
-fn size_in_room<R: Threads + Sync, G: Gate + Sync>(
-    making: &Making<'_, R, G>,
-    room: &mut Room,
-    index: u32,
-    round: &Round,
-) -> Result<Size, Missing>
-    requires can { CanBeMade making.now.tables.now making.now.settings index round.now }
-    requires room { IsRoom 1 room.old }
-    requires slots { slots_of round.now ≤ vec_len room.old.answers }
-    ensures size { let settings = making.now.settings in
-        let part = round_part index round.now in
-        MatchResult result (IsPartSize settings part) (λ missing. IsStopped settings missing index (part ∷ [])) }
-    ensures few { IfOk result (λ size. size.bytes ≤ MOST_LINES * LINE_ROOM) }
-    ensures low { IfOk result (λ size. size.sum ≤ MOST_LINES * LINE_ROOM * 255) }
-    ensures room { SpendsOne room.old room.new }
-{
-    make_in_room(making, room, index, round)?;
-    Ok(round_size(index, round, &room.scrambles))
 }
 
 /// What the text of round `index` with these scrambles amounts to, counted line by line.
@@ -229,16 +207,8 @@ fn write_size<O: Sink>(out: &mut O, rounds: &[Round], size: Size) -> Result<(), 
         → Writes (change_of O.held O.faults out.old out.new)
         (load_text (length rounds.now) (sum_by slots_of rounds.now) (length sheet) (sum sheet)) result }
 {
-    write_lines(out, rounds.len() as u32, slots_of_all(rounds), size)
-}
-
-/// Writes four lines with these numbers.
-fn write_lines<O: Sink>(out: &mut O, rounds: u32, scrambles: u32, size: Size) -> Result<(), Failed>
-    ensures { Writes (change_of O.held O.faults out.old out.new)
-        (load_text rounds scrambles size.bytes size.sum) result }
-{
-    write_number(out, "rounds ", rounds)?;
-    write_number(out, "scrambles ", scrambles)?;
+    write_number(out, "rounds ", rounds.len() as u32)?;
+    write_number(out, "scrambles ", slots_of_all(rounds))?;
     write_number(out, "bytes ", size.bytes)?;
     write_number(out, "sum ", size.sum)
 }

@@ -77,28 +77,10 @@ fn write_rounds<R: Threads + Sync, O: Sink, G: Gate + Sync>(
         (change_of O.held O.faults out.old out.new) (result_map_both (λ done. done) fault_of_make result) }
 {
     for (index, round) in rounds.iter().enumerate() {
-        write_one_round(making, room, index as u32, round, out)?;
+        let index = index as u32;
+        make_in_room(making, room, index, round)?;
+        write_slots(out, index, round, &room.scrambles)?;
     }
-    Ok(())
-}
-
-/// Makes a round, and writes it.
-fn write_one_round<R: Threads + Sync, O: Sink, G: Gate + Sync>(
-    making: &Making<'_, R, G>,
-    room: &mut Room,
-    index: u32,
-    round: &Round,
-    out: &mut O,
-) -> Result<(), MakeFault>
-    requires can { CanBeMade making.now.tables.now making.now.settings index round.now }
-    requires room { IsRoom 1 room.old }
-    requires slots { slots_of round.now ≤ vec_len room.old.answers }
-    ensures ends { EndsParts making.now.settings index (round_part index round.now ∷ [])
-        (change_of O.held O.faults out.old out.new) (result_map_both (λ done. done) fault_of_make result) }
-    ensures room { SpendsOne room.old room.new }
-{
-    make_in_room(making, room, index, round)?;
-    write_slots(out, index, round, &room.scrambles)?;
     Ok(())
 }
 

@@ -35,7 +35,7 @@ pub fn slot_agrees(
     let settings = *settings;
     ask(
         tables,
-        event,
+        event.puzzle(),
         &Agreement {
             settings,
             least,

@@ -2,9 +2,8 @@
 
 ghost use Rattle.std.specs.Prelude.{◌≡◌, ◌≤◌, ℕ, Bool, IfSome, IsSome, IsTrue};
 ghost use Rattle.scr_combinatorics.specs.Numbered.{numbers_of};
-ghost use Rattle.scr_notation.specs.Event.{greatest_in, greatest_of, is_tested_by_table, puzzle_row_of};
-ghost use Rattle.scr_notation.specs.EventSets.{Has};
-ghost use Rattle.scr_slots.specs.Events.{scrambled_as, scrambling_of, promised_as, promised_of};
+ghost use Rattle.scr_notation.specs.Event.{greatest_in, puzzle_row_of};
+ghost use Rattle.scr_slots.specs.Events.{scrambled_as, promised_as};
 ghost use Rattle.scr_slots.specs.Families.{HasTablesOf};
 ghost use Rattle.scr_slots.specs.Promised.{States, Moves, drawn_puzzle};
 ghost use Rattle.scr_slots.specs.Slots.{ByMoves, ByState};
@@ -56,19 +55,9 @@ pub(crate) trait Question {
         ensures { is_answer self.now 0 (Moves (M.random moves.now)) (ByMoves (M.event moves.now)) result };
 }
 
-/// The answer of an event to a question. The tables have the event where its states are tested by one, and where the
-/// question asks for what finds scrambles.
-pub(crate) fn ask<Q: Question>(tables: &Tables, event: Event, question: &Q) -> Q::Answer
-    requires asked { Q.may_ask question.now (greatest_of event) }
-    requires tested { IsTrue (is_tested_by_table event) → Has tables.now event }
-    requires solver { IsTrue Q.needs_solver → Has tables.now event }
-    ensures { Q.is_answer question.now (greatest_of event) (promised_of event) (scrambling_of event) result }
-{
-    ask_puzzle(tables, event.puzzle(), question)
-}
-
-/// The answer of what is scrambled for an event.
-fn ask_puzzle<Q: Question>(tables: &Tables, puzzle: Puzzle, question: &Q) -> Q::Answer
+/// The answer of the events that are scrambled as this puzzle to a question. The tables have them where their states are
+/// tested by one, and where the question asks for what finds scrambles.
+pub(crate) fn ask<Q: Question>(tables: &Tables, puzzle: Puzzle, question: &Q) -> Q::Answer
     requires asked { Q.may_ask question.now (greatest_in (puzzle_row_of puzzle).minima) }
     requires tested { IsTrue (puzzle_row_of puzzle).tested_by_table → HasTablesOf tables.now puzzle }
     requires solver { IsTrue Q.needs_solver → HasTablesOf tables.now puzzle }

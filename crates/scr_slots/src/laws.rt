@@ -21,16 +21,9 @@ pub fn each_drawn_fairly(tables: &Tables)
         → least ≤ greatest_of event → IsDrawnFairly (scrambling_of event) least }
 {
     for event in EVENTS {
-        drawn_fairly(tables, event);
-    }
-}
-
-/// An event whose tables are built is drawn fairly.
-fn drawn_fairly(tables: &Tables, event: Event)
-    ensures { Has tables.now event → (least : ℕ) → least ≤ greatest_of event → IsDrawnFairly (scrambling_of event) least }
-{
-    if tables.has(event) {
-        ask(tables, event, &Fairness);
+        if tables.has(event) {
+            ask(tables, event.puzzle(), &Fairness);
+        }
     }
 }
 

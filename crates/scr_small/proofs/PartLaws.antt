@@ -1,7 +1,6 @@
 -- Laws of the two parts of a puzzle's states.
 use Rattle.std.proofs.Common.{◌≡◌, ℕ, zero, suc, ◌*◌, ◌/◌, ◌%◌, ◌<◌, Some, sym, ap, ◌∙◌, subst, arith}
 use Rattle.std.specs.Option.{option_map}
-use Rattle.std.proofs.lemmas.Nat.{mod_below}
 use Rattle.std.proofs.lemmas.Option.{same_Some}
 use Rattle.std.proofs.Math.Nat.{mul-lt-mul_of_pos_left}
 use Rattle.scr_combinatorics.specs.Numbered.{Numbered}
@@ -12,14 +11,9 @@ use Rattle.scr_positions.proofs.StaysBelowLaws.{part_below}
 use Rattle.scr_notation.specs.declared.turn.Turn.{Turn}
 use Rattle.scr_small.specs.NumberedPuzzles.{NumberedPuzzle, numbered_powers, after_number}
 use Rattle.scr_small.specs.LawfulPuzzles.{IsNumberedPuzzle}
-use Rattle.scr_small.specs.StateParts.{MovesByParts, low_part, high_part}
+use Rattle.scr_small.specs.StateParts.{MovesByParts, high_part}
 
 -- ---- turns lead from positions to positions
-
-pub StaysBelow-low : {S T : Type 0} (p : NumberedPuzzle S T) (low_count : ℕ) → StaysBelow (low_part p low_count)
-StaysBelow-low p low_count i n q at turn e =
-    let led = map-some (λ s. p.numbered.number_of s % low_count) (after_number p (p.numbered.state_at i) n) q e in
-    subst (λ k. k < low_count) led.2 (mod_below (p.numbered.number_of led.0) low_count (omega arith))
 
 -- the place of a low part among the states, and of a high one
 pub low_place : (low_count high_count count i : ℕ) → count ≡ low_count * high_count → 0 < count → i < low_count

@@ -19,7 +19,6 @@
 pub mod laws;
 mod one_table;
 mod parts;
-mod parts_line;
 mod scrambles;
 mod small_222;
 mod small_puzzle;

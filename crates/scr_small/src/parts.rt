@@ -1,11 +1,14 @@
-//! The two parts of a puzzle's states, each as a coordinate.
+//! The two parts of a puzzle's states, each as a coordinate, and the table over both side by side.
 ghost use Rattle.std.specs.Prelude.{◌≡◌};
 ghost use Rattle.scr_positions.specs.Coordinates.{StaysBelow};
-ghost use Rattle.scr_small.specs.SolvedByTable.{IsSolvedByTable};
 ghost use Rattle.scr_small.specs.StateParts.{low_part, high_part};
+ghost use Rattle.scr_small.specs.Tables.{table_line};
 
 use crate::one_table::OneTable;
-use scr_positions::Coord;
+use scr_outside::NoMemory;
+use scr_positions::{Coord, MoveTable, Product};
+use scr_table::{Line, TableName};
+use std::alloc::Global;
 use std::marker::PhantomData;
 
 /// The part whose numbers follow each other. A step finds the state, turns it, and numbers it, so that tables of moves
@@ -23,20 +26,6 @@ pub(crate) struct HighPart<P: OneTable> {
     puzzle: PhantomData<P>,
     ghost stays: { StaysBelow (high_part P.shown P.TABLE.low P.TABLE.high) },
     ghost first: { P.shown.numbered.number_of P.shown.solved ≡ 0 },
-}
-
-/// The two parts of a puzzle that one table solves.
-pub(crate) fn parts_of<P: OneTable>() -> (LowPart<P>, HighPart<P>)
-    ensures { IsSolvedByTable P.shown P.TABLE }
-{
-    let _numbers = P::numbers();
-    let low = LowPart {
-        puzzle: PhantomData,
-    };
-    let high = HighPart {
-        puzzle: PhantomData,
-    };
-    (low, high)
 }
 
 impl<P: OneTable> Coord for LowPart<P> {
@@ -79,5 +68,32 @@ impl<P: OneTable> Coord for HighPart<P> {
 
     fn is_goal(&self, position: u32) -> bool {
         position == 0
+    }
+}
+
+/// The table of a puzzle's states. Its moves are those of their parts.
+pub(crate) struct PartsLine<P: OneTable> {
+    puzzle: PhantomData<P>,
+}
+
+impl<P: OneTable> Line for PartsLine<P> {
+    ghost line = { table_line P.shown P.TABLE };
+
+    fn reach() -> (TableName, u32) {
+        let _numbers = P::numbers();
+        (P::TABLE.name, P::TABLE.bound)
+    }
+
+    type Moves = Product<MoveTable, MoveTable>;
+
+    fn moves(alloc: Global) -> Result<Product<MoveTable, MoveTable>, NoMemory> {
+        let _numbers = P::numbers();
+        let low = LowPart::<P> {
+            puzzle: PhantomData,
+        };
+        let high = HighPart::<P> {
+            puzzle: PhantomData,
+        };
+        Product::of_moves(alloc, &low, &high)
     }
 }

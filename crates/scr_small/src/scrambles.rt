@@ -8,7 +8,7 @@ ghost use Rattle.scr_small.specs.Tables.{entry_at};
 
 use crate::one_table::OneTable;
 use crate::tables::SmallTables;
-use scr_notation::{Scramble, inverse, numbered_scramble};
+use scr_notation::{NumberedWord, Scramble};
 
 /// The scramble of a state: the first word that solves it, taken back. The tables are those of the puzzle's event.
 pub fn scramble_of<P: OneTable>(tables: &SmallTables, state: &P::State) -> Scramble
@@ -16,7 +16,7 @@ pub fn scramble_of<P: OneTable>(tables: &SmallTables, state: &P::State) -> Scram
     ensures { IsScrambleByTable P.shown P.TABLE state.now result }
 {
     let word = tables.descend(P::number(state));
-    inverse(&numbered_scramble(P::TABLE.event, &word))
+    NumberedWord::of(P::TABLE.event, &word).taken_back()
 }
 
 /// How many turns a state is from solved, and so how many it needs. The tables are those of the puzzle's event.

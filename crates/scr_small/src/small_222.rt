@@ -38,6 +38,7 @@ impl OneTable for Numbers222 {
         high: 5040,
     };
 
+    #[tactic(auto, using(crate::proofs::Lawful222::solved_by_table_222))]
     fn numbers() -> Numbers222 {
         Numbers222
     }

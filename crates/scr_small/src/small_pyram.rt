@@ -37,6 +37,7 @@ impl OneTable for TetraminxNumbers {
         high: 360,
     };
 
+    #[tactic(auto, using(crate::proofs::LawfulTetraminx::solved_by_table_tetraminx))]
     fn numbers() -> TetraminxNumbers {
         TetraminxNumbers
     }

@@ -38,6 +38,7 @@ impl OneTable for SkewbNumbers {
         high: 360,
     };
 
+    #[tactic(auto, using(crate::proofs::LawfulSkewb::solved_by_table_skewb))]
     fn numbers() -> SkewbNumbers {
         SkewbNumbers
     }

@@ -6,7 +6,7 @@ ghost use Rattle.scr_table.specs.Causes.{IsCauseOf};
 ghost use Rattle.scr_table.specs.Lines.{HasNoGap};
 ghost use Rattle.scr_small.specs.Tables.{small_line, small_lines, IsBuilt};
 
-use crate::parts_line::PartsLine;
+use crate::parts::PartsLine;
 use arrayvec::ArrayVec;
 use scr_cube::Numbers222;
 use scr_notation::Event;

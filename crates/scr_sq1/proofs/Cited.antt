@@ -9,15 +9,13 @@ use Rattle.scr_sq1.proofs.Lawful.{IsSq1-solved, IsSq1-turned, after_layers-close
 use Rattle.scr_sq1.proofs.LayersApart.{of_one_corner-turned}
 use Rattle.scr_sq1.proofs.PieceSteps.{IsKnownWord-below, corners_end, corners_first, corners_room, corners_same, corners_second, corners_start, edges_end, edges_more, edges_room, edges_same, edges_start, piece_more, put_end, put_more, put_room, put_start}
 use Rattle.scr_sq1.proofs.Places.{IsTurnTable-turn, place_before-lt}
-use Rattle.scr_sq1.proofs.ShapeSteps.{corner_bits-drop, corner_bits-lt, corners_table-listed, counted_at, counted_corners, counted_next, counted_start, counted_whole, made_at, made_end, made_next, made_start, read_end, read_next, read_start, run_of-end, run_of-found, run_of-next, ways_table}
+use Rattle.scr_sq1.proofs.ShapeSteps.{corner_bits-drop, corner_bits-lt, corners_table-listed, counted_at, counted_corners, counted_next, counted_start, counted_whole, half_table, made_at, made_end, made_next, made_start, read_end, read_next, read_start, run_of-end, run_of-found, run_of-next, ways_table}
 use Rattle.scr_sq1.proofs.StatePieces.{AreCounted-halves, LaidState-pieces}
 use Rattle.scr_sq1.proofs.TurnLaws.{IsSq1-twisted}
 use Rattle.std.proofs.lemmas.Int.{to_z-of_z}
 use Rattle.std.proofs.lemmas.List.{length-set, take_all}
 
 pub ruleset with_half = (length-set, take_all, counted_corners, IsKnownWord-below, piece_more)
-
-pub ruleset units_of = (All-permutation, AreCounted-halves, LaidState-pieces)
 
 pub ruleset corner_bits = (corner_bits-lt, corner_bits-drop)
 
@@ -27,7 +25,7 @@ pub ruleset numbers_before = (length-corner_counts, total-more, corners_table-li
 
 pub ruleset ways_after = (ways_after-few, ways_after-many, ways_table)
 
-pub ruleset turn = (to_z-of_z, after_layers-open, after_layers-closed, units_turned, IsSq1-turned)
+pub ruleset turn = (to_z-of_z, after_layers-open, after_layers-closed, units_turned, IsSq1-turned, All-permutation, IsTurnTable-turn)
 
 pub ruleset twist = (IsSq1-twisted)
 
@@ -35,21 +33,19 @@ pub ruleset play = (play-empty, play-more, play-barred, play-whole)
 
 pub ruleset solved = (IsSq1-solved)
 
-pub ruleset state_at = (LaidState-pieces)
-
-pub ruleset turned = (All-permutation, IsTurnTable-turn)
+pub ruleset state_at = (All-permutation, AreCounted-halves, LaidState-pieces)
 
 pub ruleset come_of_one_corner = (place_before-lt, of_one_corner-turned)
 
 pub ruleset count = (occurrences-le_length)
 
-pub ruleset corners_in = (corners_start, corners_room, corners_first, corners_second, corners_same, corners_end)
+pub ruleset corners = (corners_start, corners_room, corners_first, corners_second, corners_same, corners_end)
 
-pub ruleset edges_in = (edges_start, edges_room, edges_more, edges_same, edges_end)
+pub ruleset edges = (edges_start, edges_room, edges_more, edges_same, edges_end)
 
 pub ruleset shape_word = (put_start, put_room, put_more, put_end)
 
-pub ruleset shape_in = (read_start, read_next, read_end)
+pub ruleset shape = (read_start, read_next, read_end, half_table)
 
 pub ruleset shape_number = (shapes_one_to_one, counted_start, counted_at, counted_next, counted_whole, counted_corners)
 

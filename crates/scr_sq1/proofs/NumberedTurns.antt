@@ -1,12 +1,16 @@
 -- The turns by their numbers.
-use Rattle.std.proofs.Common.{◌≡◌, ℕ, ◌<◌, ◌/◌, ◌%◌, IsTrue, Option, Some, None, refl, sym, ap, ◌∙◌, subst}
+use Rattle.std.proofs.Common.{◌≡◌, ℕ, ◌<◌, ◌/◌, ◌%◌, IsTrue, List, [], ◌∷◌, Option, Some, None, refl, sym, ap, ◌∙◌, subst}
 use Rattle.std.proofs.lemmas.Bool.{cond-true, cond-false, ne_eqb}
-use Rattle.std.specs.Prelude.{ℤ, pos, ◌-ℤ◌, ◌==◌}
+use Rattle.std.specs.Prelude.{ℤ, pos, ◌-ℤ◌, ◌==◌, map, option_and_then}
+use Rattle.scr_combinatorics.specs.Play.{play}
+use Rattle.scr_notation.specs.declared.event.Event.TheVariants.{Sq1 as EventSq1}
 use Rattle.scr_notation.specs.declared.event.Kind.TheVariants.{LayersAndTwist}
 use Rattle.scr_notation.specs.declared.turn.Turn.{Turn}
 use Rattle.scr_notation.specs.declared.turn.Turn.TheVariants.{Layers, Twist}
+use Rattle.scr_notation.specs.Event.{kind_of}
 use Rattle.scr_notation.specs.Layers.{is_layer_turn}
 use Rattle.scr_notation.specs.TurnNumbers.{layer_turn_at, turn_at}
+use Rattle.scr_notation.specs.Written.{Written, numbered_word}
 use Rattle.scr_notation.proofs.NumberLaws.{numbered, has_turn_at}
 use Rattle.scr_sq1.specs.Units.{Sq1State, after_layers, twisted, sq1_after}
 use Rattle.scr_sq1.proofs.Lawful.{sq1_after-layers}
@@ -52,3 +56,31 @@ after-number s n o x y lt apart made top bottom =
     made ∙ ap (λ z. after_layers s z y) top ∙ ap (after_layers s (top_of n)) bottom
     ∙ sym (ap (sq1_after s) turn
     ∙ cond-true (is_layer_turn (Layers (top_of n) (bottom_of n))) (after_layers s (top_of n) (bottom_of n)) None letter)
+
+-- what the turn of a number makes of a state
+abbrev pub numbered_after : Sq1State → ℕ → Option Sq1State
+numbered_after s n = sq1_after s (layer_turn_at n)
+
+same_rest : (o : Option Sq1State) (w : List ℕ) → ((r : Sq1State) → play numbered_after r w ≡ play sq1_after r (map layer_turn_at w))
+    → option_and_then (λ r. play numbered_after r w) o ≡ option_and_then (λ r. play sq1_after r (map layer_turn_at w)) o
+same_rest None w h = refl
+same_rest (Some r) w h = h r
+
+-- a word played by its numbers
+pub play-numbered : (s : Sq1State) (w : List ℕ) → play numbered_after s w ≡ play sq1_after s (map layer_turn_at w)
+unfolding play
+play-numbered s [] = refl
+play-numbered s (n ∷ w) = same_rest (numbered_after s n) w (λ r. play-numbered r w)
+
+-- the turns of a word that is told by its numbers
+pub turns-numbered : (word : Written) (numbers : List ℕ) → word.event ≡ EventSq1 → word ≡ numbered_word word.event numbers
+    → word.turns ≡ map layer_turn_at numbers
+unfolding turn_at
+turns-numbered word numbers event is =
+    ap (λ (w : Written). w.turns) is ∙ ap (λ e. map (turn_at (kind_of e)) numbers) event
+
+-- and such a word played
+pub play-word : (s : Sq1State) (word : Written) (numbers : List ℕ) → word.event ≡ EventSq1 → word ≡ numbered_word word.event numbers
+    → play numbered_after s numbers ≡ play sq1_after s word.turns
+play-word s word numbers event is =
+    play-numbered s numbers ∙ ap (play sq1_after s) (sym (turns-numbered word numbers event is))

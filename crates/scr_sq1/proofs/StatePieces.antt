@@ -89,6 +89,10 @@ StatePieces-halves units h =
 pub StatePieces-valid : (s : Sq1State) → IsSq1 s → StatePieces s.units
 StatePieces-valid s h = StatePieces-halves s.units (InHalves-valid s h)
 
+-- the same of units as they are read
+pub StatePieces-read : (s : Sq1State) (units : List ℕ) → units ≡ s.units → IsSq1 s → StatePieces units
+StatePieces-read s units e h = subst StatePieces (sym e) (StatePieces-valid s h)
+
 -- ---- the units of pieces
 
 -- how many corners and how many units the pieces of some halves have

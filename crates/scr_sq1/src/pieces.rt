@@ -1,11 +1,12 @@
 //! The pieces of a Square-1 in unit order.
 ghost use Rattle.std.specs.Prelude.{◌≡◌, ◌+◌, ◌<◌, ◌≤◌, ◌++◌, All, filter, length, take};
 ghost use Rattle.scr_combinatorics.specs.Permutations.{IsPermutation};
-ghost use Rattle.scr_sq1.specs.Units.{is_corner};
+ghost use Rattle.scr_sq1.specs.Units.{IsSq1};
 ghost use Rattle.scr_sq1.specs.Shapes.{half_word, IsShape, units_among, Fits};
 ghost use Rattle.scr_sq1.specs.Numbers.{corners_of, edges_of, laid, shape_word};
 
 use crate::shapes::CORNERS;
+use crate::state::Sq1;
 use crate::turning::UNITS;
 
 /// How many pieces there are.
@@ -34,58 +35,53 @@ const HALVES: [[bool; 6]; 13] = [
     [C, C, C, E, E, E],
 ];
 
-/// The corners of these units in unit order.
-#[tactic(auto, using(crate::proofs::Cited::corners_in))]
-pub(crate) fn corners_in(units: &[u8; UNITS]) -> [u8; 8]
-    requires { length (filter is_corner units.now) ≡ 16 }
-    ensures { result ≡ corners_of units.now }
-{
-    let mut corners = [0; 8];
-    let mut found: usize = 0;
-    let mut is_second = false;
-    for unit in units {
-        if *unit < 8 {
-            if !is_second {
-                corners[found] = *unit;
+impl Sq1 {
+    /// The corners in unit order.
+    #[tactic(auto, using(crate::proofs::Cited::corners))]
+    pub fn corners(&self) -> [u8; 8]
+        ensures corners { result ≡ corners_of self.now.units }
+        ensures permutation { IsPermutation 8 result }
+        ensures valid { IsSq1 self.now }
+    {
+        let units = self.units();
+        let mut corners = [0; 8];
+        let mut found: usize = 0;
+        let mut is_second = false;
+        for unit in &units {
+            if *unit < 8 {
+                if !is_second {
+                    corners[found] = *unit;
+                    found += 1;
+                }
+                is_second = !is_second;
+            }
+        }
+        corners
+    }
+
+    /// The edges in unit order, edge n for piece 8 + n.
+    #[tactic(auto, using(crate::proofs::Cited::edges))]
+    pub fn edges(&self) -> [u8; 8]
+        ensures edges { result ≡ edges_of self.now.units }
+        ensures permutation { IsPermutation 8 result }
+        ensures valid { IsSq1 self.now }
+    {
+        let units = self.units();
+        let mut edges = [0; 8];
+        let mut found: usize = 0;
+        for unit in &units {
+            if *unit >= 8 {
+                edges[found] = *unit - 8;
                 found += 1;
             }
-            is_second = !is_second;
         }
+        edges
     }
-    corners
-}
-
-/// The edges of these units in unit order, edge n for piece 8 + n.
-#[tactic(auto, using(crate::proofs::Cited::edges_in))]
-pub(crate) fn edges_in(units: &[u8; UNITS]) -> [u8; 8]
-    requires { length (edges_of units.now) ≡ 8 }
-    ensures { result ≡ edges_of units.now }
-{
-    let mut edges = [0; 8];
-    let mut found: usize = 0;
-    for unit in units {
-        if *unit >= 8 {
-            edges[found] = *unit - 8;
-            found += 1;
-        }
-    }
-    edges
-}
-
-/// The units of the state with this shape, these corners and these edges, each in unit order.
-#[tactic(auto, using(crate::proofs::Cited::units_of))]
-pub(crate) fn units_of(halves: &[u8; 4], corners: &[u8; 8], edges: &[u8; 8]) -> [u8; UNITS]
-    requires shape { IsShape halves.now }
-    requires corners { IsPermutation 8 corners.now }
-    requires edges { IsPermutation 8 edges.now }
-    ensures { result ≡ laid (shape_word halves.now) corners.now edges.now }
-{
-    laid(&shape_word(halves), corners, edges)
 }
 
 /// Which pieces of a shape are corners, one half behind the other.
 #[tactic(auto, using(crate::proofs::Cited::shape_word))]
-fn shape_word(halves: &[u8; 4]) -> [bool; PIECES]
+pub(crate) fn shape_word(halves: &[u8; 4]) -> [bool; PIECES]
     requires { IsShape halves.now }
     ensures { result ≡ shape_word halves.now }
 {
@@ -115,7 +111,7 @@ fn with_half(word: &mut [bool; PIECES], from: usize, half: u8) -> usize
 
 /// The units of pieces that lie one behind the other: each corner of the word is the next one of these and fills two
 /// units, and each edge is the next one of these.
-fn laid(word: &[bool; PIECES], corners: &[u8; 8], edges: &[u8; 8]) -> [u8; UNITS]
+pub(crate) fn laid(word: &[bool; PIECES], corners: &[u8; 8], edges: &[u8; 8]) -> [u8; UNITS]
     requires fits { Fits word.now corners.now edges.now }
     requires units { units_among word.now ≡ 24 }
     requires edges { All (λ edge. edge < 8) edges.now }

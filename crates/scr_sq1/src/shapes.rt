@@ -3,7 +3,7 @@ ghost use Rattle.std.specs.Prelude.{◌≡◌, ℕ, ◌<◌, ◌≤◌, List, ma
 ghost use Rattle.scr_combinatorics.specs.Lists.{total};
 ghost use Rattle.scr_sq1.specs.Shapes.{IsShape, corner_counts, corner_bits, half_of, shape_of, ways_after, run_of, shape_number, shape_at};
 
-use crate::turning::UNITS;
+use crate::state::Sq1;
 use std::marker::Model;
 
 /// How many corners each half has.
@@ -56,26 +56,19 @@ impl Shape {
     }
 }
 
-/// The shape of a state with these units.
-#[tactic(auto, using(crate::proofs::Cited::shape_in))]
-pub(crate) fn shape_in(units: &[u8; UNITS]) -> Shape
-    requires { IsShape (shape_of units.now) }
-    ensures { result ≡ shape_of units.now }
-{
-    let mut halves = [0; 4];
-    for half in 0..4 {
-        halves[half] = half_of(&units[6 * half..6 * half + 6]);
+impl Sq1 {
+    /// Where its corners and edges lie.
+    #[tactic(auto, using(crate::proofs::Cited::shape))]
+    pub fn shape(&self) -> Shape
+        ensures { result ≡ shape_of self.now.units }
+    {
+        let units = self.units();
+        let mut halves = [0; 4];
+        for half in 0..4 {
+            halves[half] = HALF_OF_BITS[corner_bits(&units[6 * half..6 * half + 6])];
+        }
+        Shape { halves }
     }
-    Shape { halves }
-}
-
-/// The half that six units are.
-#[tactic(auto, using(crate::proofs::ShapeSteps::half_table))]
-fn half_of(units: &[u8]) -> u8
-    requires { length units.now ≡ 6 }
-    ensures { result ≡ half_of units.now }
-{
-    HALF_OF_BITS[corner_bits(units)]
 }
 
 /// Which of six units are of corners, unit k as bit k.

@@ -1,6 +1,7 @@
 //! The state of a Square-1 and its turns.
 ghost use Rattle.std.specs.Prelude.{◌≡◌, ◌<◌, ◌↔◌, Some, IsTrue, IsSome, IfSome};
 ghost use Rattle.scr_combinatorics.specs.Play.{play};
+ghost use Rattle.scr_notation.specs.declared.event.Event.TheVariants.{Sq1 as EventSq1};
 ghost use Rattle.scr_notation.specs.declared.turn.Turn.TheVariants.{Layers};
 ghost use Rattle.scr_notation.specs.Layers.{is_twelfths, is_layer_turn};
 ghost use Rattle.scr_notation.specs.TurnNumbers.{layer_turn_at};
@@ -9,11 +10,9 @@ ghost use Rattle.scr_sq1.specs.Shapes.{shape_of};
 ghost use Rattle.scr_sq1.specs.Numbers.{corners_of, edges_of};
 ghost use Rattle.scr_sq1.specs.Units.{IsSq1, solved_sq1, after_layers, twisted, sq1_after};
 
-use crate::pieces::{corners_in, edges_in};
-use crate::shapes::{Shape, shape_in};
-use crate::turning::{UNITS, clockwise, turned, twisted};
-use crate::validity::{are_corners_whole, has_each_piece, is_open, is_open_turned};
-use scr_notation::{Scramble, Turn};
+use crate::turning::{TWIST_PLACES, UNITS, clockwise, moved, turn_places};
+use crate::validity::{are_corners_whole, has_each_piece, is_open_turned};
+use scr_notation::{NumberedWord, Scramble, Turn};
 use std::marker::Model;
 
 /// How many turns there are: one for each two amounts of twelfths from -5 to 6, but that the twist stands in the place
@@ -30,8 +29,8 @@ pub const TWIST: u32 = 65;
 /// edges are pieces 8 to 15, and fill one.
 #[derive(Clone, Copy, Debug, PartialEq, Eq)]
 pub struct Sq1 {
-    units: [u8; UNITS],
-    equator: bool,
+    pub(crate) units: [u8; UNITS],
+    pub(crate) equator: bool,
 }
 
 // Clauses see the units and the equator.
@@ -67,19 +66,11 @@ impl Sq1 {
         ensures valid { IsSome result ↔ IsSq1 (record { units = units; equator = equator }) }
         ensures value { IfSome result (λ state. state ≡ record { units = units; equator = equator }) }
     {
-        if has_each_piece(&units) && are_corners_whole(&units) && is_open(&units) {
+        if has_each_piece(&units) && are_corners_whole(&units) && is_open_turned(&units, 0, 0) {
             Some(Sq1 { units, equator })
         } else {
             None
         }
-    }
-
-    /// The state of units that are known to be valid.
-    pub(crate) fn of_valid(units: [u8; UNITS], equator: bool) -> Sq1
-        requires { IsSq1 (record { units = units; equator = equator }) }
-        ensures { result ≡ record { units = units; equator = equator } }
-    {
-        Sq1 { units, equator }
     }
 
     /// Which piece each unit is of.
@@ -105,31 +96,6 @@ impl Sq1 {
         self.equator
     }
 
-    /// Where its corners and edges lie.
-    pub fn shape(&self) -> Shape
-        ensures { result ≡ shape_of self.now.units }
-    {
-        shape_in(&self.units)
-    }
-
-    /// The corners in unit order.
-    pub fn corners(&self) -> [u8; 8]
-        ensures corners { result ≡ corners_of self.now.units }
-        ensures permutation { IsPermutation 8 result }
-        ensures valid { IsSq1 self.now }
-    {
-        corners_in(&self.units)
-    }
-
-    /// The edges in unit order, edge n for piece 8 + n.
-    pub fn edges(&self) -> [u8; 8]
-        ensures edges { result ≡ edges_of self.now.units }
-        ensures permutation { IsPermutation 8 result }
-        ensures valid { IsSq1 self.now }
-    {
-        edges_in(&self.units)
-    }
-
     /// The state after the layers are turned by so many twelfths, from -5 to 6, each clockwise as seen from its own side.
     /// `None` comes exactly where a corner would lie across the cut.
     #[inline]
@@ -144,7 +110,7 @@ impl Sq1 {
         let bottom = clockwise(bottom);
         if is_open_turned(&self.units, top, bottom) {
             Some(Sq1 {
-                units: turned(&self.units, top, bottom),
+                units: moved(&self.units, &turn_places(top, bottom)),
                 equator: self.equator,
             })
         } else {
@@ -154,13 +120,13 @@ impl Sq1 {
 
     /// The state after the half at the right of the cut is turned over, with its part of the equator.
     #[inline]
-    #[tactic(auto, using(crate::proofs::Cited::twist), unfolding(crate::specs::Units::twisted))]
+    #[tactic(auto, using(crate::proofs::Cited::twist), unfolding(crate::specs::Units::twisted, crate::specs::Units::twist_places))]
     pub fn twist(&self) -> Sq1
         ensures value { result ≡ twisted self.now }
         ensures valid { IsSq1 self.now }
     {
         Sq1 {
-            units: twisted(&self.units),
+            units: moved(&self.units, &TWIST_PLACES),
             equator: !self.equator,
         }
     }
@@ -178,6 +144,19 @@ impl Sq1 {
         } else {
             self.turn((number / 12) as i8 - 5, (number % 12) as i8 - 5)
         }
+    }
+
+    /// The state after the turns of a Square-1's word. `None` comes exactly where one of them is barred in its place.
+    #[tactic(auto, using(crate::proofs::Cited::play))]
+    pub fn after_word(&self, word: &NumberedWord) -> Option<Sq1>
+        requires { word.now.event ≡ EventSq1 }
+        ensures { result ≡ play sq1_after self.now word.now.turns }
+    {
+        let mut state = *self;
+        for number in word.numbers() {
+            state = state.turn_at(u32::from(*number))?;
+        }
+        Some(state)
     }
 
     /// The state after the turns of a scramble. `None` comes exactly where one of them isn't a turn of a Square-1, or
@@ -201,7 +180,10 @@ fn after(state: &Sq1, letter: Turn) -> Option<Sq1>
 {
     match letter {
         Turn::Layers { top, bottom } => {
-            if is_layer_turn(top, bottom) {
+            if (-5 <= top && top <= 6)
+                && (-5 <= bottom && bottom <= 6)
+                && !(top == 0 && bottom == 0)
+            {
                 state.turn(top, bottom)
             } else {
                 None
@@ -210,11 +192,4 @@ fn after(state: &Sq1, letter: Turn) -> Option<Sq1>
         Turn::Twist => Some(state.twist()),
         _ => None,
     }
-}
-
-/// Whether these are amounts of a turn of the layers: from -5 to 6, and not both 0.
-fn is_layer_turn(top: i8, bottom: i8) -> bool
-    ensures { result ≡ is_layer_turn (Layers top bottom) }
-{
-    (-5 <= top && top <= 6) && (-5 <= bottom && bottom <= 6) && !(top == 0 && bottom == 0)
 }

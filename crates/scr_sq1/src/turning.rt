@@ -8,34 +8,14 @@ ghost use Rattle.scr_sq1.specs.Units.{clockwise, place_before, turn_places, twis
 pub(crate) const UNITS: usize = 24;
 
 /// Where the pieces of each unit stood before a twist.
-const TWIST_PLACES: [u8; UNITS] = [
+pub(crate) const TWIST_PLACES: [u8; UNITS] = [
     12, 13, 14, 15, 16, 17, 6, 7, 8, 9, 10, 11, 0, 1, 2, 3, 4, 5, 18, 19, 20, 21, 22, 23,
 ];
-
-/// The units after the layers are turned by so many twelfths, each clockwise as seen from its own side.
-#[inline]
-#[tactic(auto, using(crate::proofs::Cited::turned))]
-pub(crate) fn turned(units: &[u8; UNITS], top: u8, bottom: u8) -> [u8; UNITS]
-    requires top { top < 12 }
-    requires bottom { bottom < 12 }
-    ensures { result ≡ pick units.now (turn_places top bottom) }
-{
-    moved(units, &turn_places(top, bottom))
-}
-
-/// The units after a twist.
-#[inline]
-#[tactic(auto, unfolding(crate::specs::Units::twist_places))]
-pub(crate) fn twisted(units: &[u8; UNITS]) -> [u8; UNITS]
-    ensures { result ≡ pick units.now twist_places }
-{
-    moved(units, &TWIST_PLACES)
-}
 
 /// Each unit gets the piece that stood at its place.
 #[inline]
 #[tactic(auto, using(crate::proofs::Steps::picked_by_units))]
-fn moved(units: &[u8; UNITS], places: &[u8; UNITS]) -> [u8; UNITS]
+pub(crate) fn moved(units: &[u8; UNITS], places: &[u8; UNITS]) -> [u8; UNITS]
     requires { All (λ place. place < 24) places.now }
     ensures { result ≡ pick units.now places.now }
 {
@@ -48,7 +28,7 @@ fn moved(units: &[u8; UNITS], places: &[u8; UNITS]) -> [u8; UNITS]
 
 /// Where the pieces of each unit stood before a turn by so many twelfths clockwise.
 #[inline]
-fn turn_places(top: u8, bottom: u8) -> [u8; UNITS]
+pub(crate) fn turn_places(top: u8, bottom: u8) -> [u8; UNITS]
     requires top { top < 12 }
     requires bottom { bottom < 12 }
     ensures { result ≡ turn_places top bottom }
@@ -68,21 +48,8 @@ pub(crate) fn place_before(top: u8, bottom: u8, unit: u8) -> u8
     requires unit { unit < 24 }
     ensures { result ≡ place_before top bottom unit }
 {
-    if unit < 12 {
-        back_round(unit, top)
-    } else {
-        12 + back_round(unit - 12, bottom)
-    }
-}
-
-/// The unit of a layer so many twelfths anticlockwise from this one.
-#[inline]
-fn back_round(unit: u8, twelfths: u8) -> u8
-    requires unit { unit < 12 }
-    requires twelfths { twelfths < 12 }
-    ensures { result ≡ (unit + (12 - twelfths)) % 12 }
-{
-    if unit < twelfths {
+    let (first, twelfths) = if unit < 12 { (0, top) } else { (12, bottom) };
+    if unit - first < twelfths {
         unit + 12 - twelfths
     } else {
         unit - twelfths

@@ -5,27 +5,6 @@ ghost use Rattle.scr_sq1.specs.Units.{is_corner, fills_neighbour, are_of_one_cor
 
 use crate::turning::{UNITS, place_before};
 
-/// Whether no corner lies across the cut.
-#[inline]
-pub(crate) fn is_open(units: &[u8; UNITS]) -> bool
-    ensures { result ≡ is_open units.now }
-{
-    !are_of_one_corner(units, 11, 0)
-        && !are_of_one_corner(units, 5, 6)
-        && !are_of_one_corner(units, 23, 12)
-        && !are_of_one_corner(units, 17, 18)
-}
-
-/// Whether two units are of one corner.
-#[inline]
-fn are_of_one_corner(units: &[u8; UNITS], unit: usize, other: usize) -> bool
-    requires unit { unit < 24 }
-    requires other { other < 24 }
-    ensures { result ≡ are_of_one_corner units.now unit other }
-{
-    units[unit] < 8 && units[other] == units[unit]
-}
-
 /// Whether no corner lies across the cut once the layers are turned by so many twelfths clockwise. No unit is moved for
 /// it, since most turns of most states are barred.
 #[inline]
@@ -50,9 +29,8 @@ fn come_of_one_corner(units: &[u8; UNITS], top: u8, bottom: u8, unit: u8, other:
     requires other { other < 24 }
     ensures { result ≡ are_of_one_corner (pick units.now (turn_places top bottom)) unit other }
 {
-    let from = place_before(top, bottom, unit);
-    let other_from = place_before(top, bottom, other);
-    are_of_one_corner(units, usize::from(from), usize::from(other_from))
+    let piece = units[usize::from(place_before(top, bottom, unit))];
+    piece < 8 && units[usize::from(place_before(top, bottom, other))] == piece
 }
 
 /// Whether each corner fills two units and each edge one.

@@ -2,8 +2,7 @@
 ghost use Rattle.std.specs.Prelude.{◌≡◌, ◌+◌, ◌-◌, ◌<◌, Some, ◌≤◌, ◌↔◌, IsTrue, OnOk, nat_eq};
 ghost use Rattle.std.specs.HashMap.{get};
 ghost use Rattle.scr_combinatorics.specs.Reach.{Needs};
-ghost use Rattle.scr_notation.specs.TurnNumbers.{layer_turn_at};
-ghost use Rattle.scr_sq1.specs.Units.{Sq1State, IsSq1, sq1_after, sq1_puzzle};
+ghost use Rattle.scr_sq1.specs.Units.{Sq1State, IsSq1, sq1_puzzle};
 ghost use Rattle.scr_sq1far.specs.Found.{AreFound, FindsMore, level_in};
 ghost use Rattle.scr_sq1far.specs.Levels.{TellNeeds, AreLevels, AreTold, AreTurnsListed, HasLevel, key_of};
 ghost use Rattle.scr_sq1far.specs.Within.{IsWithin};
@@ -101,7 +100,7 @@ impl Found {
         self.add(&twisted, level)
     }
 
-    /// Adds each state to which a turn leads from this one, turn by turn.
+    /// Adds each state to which a turn leads from this one, turn by turn, unless it is barred.
     fn add_turns(&mut self, state: &Sq1, level: u8) -> Result<(), NoMemory>
         requires near { IsWithin sq1_puzzle state.now (level - 1) }
         requires level { 0 < level }
@@ -110,25 +109,11 @@ impl Found {
         ensures turns { OnOk result (AreTurnsListed level (level_in self.new) state.now 144) }
     {
         for turn in 0..TURNS {
-            self.add_next(state, turn, level)?;
+            if let Some(next) = state.turn_at(turn) {
+                self.add(&next, level)?;
+            }
         }
         Ok(())
-    }
-
-    /// Adds the state to which a turn leads, unless it is barred.
-    fn add_next(&mut self, state: &Sq1, turn: u32, level: u8) -> Result<(), NoMemory>
-        requires turn { turn < 144 }
-        requires near { IsWithin sq1_puzzle state.now (level - 1) }
-        requires level { 0 < level }
-        requires listed { AreFound level self.old }
-        ensures found { OnOk result (FindsMore level self.old self.new) }
-        ensures added { OnOk result ((r : Sq1State) → sq1_after state.now (layer_turn_at turn) ≡ Some r
-            → HasLevel level (level_in self.new) (key_of r)) }
-    {
-        match state.turn_at(turn) {
-            Some(next) => self.add(&next, level),
-            None => Ok(()),
-        }
     }
 
     /// Adds a state that has this level, unless it has one already.

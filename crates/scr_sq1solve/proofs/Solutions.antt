@@ -32,7 +32,7 @@ use Rattle.scr_sq1tables.specs.declared.stage_letters.StageLetters.{StageLetters
 use Rattle.scr_sq1tables.specs.declared.stage_letters.StageLetters.TheVariants.{OfShapes, OfPairings, OfHome, Squarings, Quarters}
 use Rattle.scr_sq1solve.proofs.Lengths.{Costs-letter, twists-tidy, length-tidy, twists-back, IsTidy-sq1, layer_turns-played}
 use Rattle.scr_notation.specs.declared.turn.Turn.TheVariants.{Layers, Twist}
-use Rattle.scr_notation.proofs.TidyingLaws.{length-back}
+use Rattle.scr_notation.proofs.OppositeLaws.{length-back}
 use Rattle.scr_combinatorics.proofs.StageLaws as of_stages
 
 -- ---- a solution leads to solved

@@ -39,7 +39,7 @@ impl Moves for Sq1Moves {
 
     #[inline]
     fn is_solved(&self, state: &Sq1) -> bool {
-        is_solved(state)
+        !state.equator() && state.units() == Sq1::solved().units()
     }
 
     #[inline]
@@ -50,12 +50,4 @@ impl Moves for Sq1Moves {
             second != TWIST
         }
     }
-}
-
-/// Whether all pieces are home, and the equator too.
-#[inline]
-fn is_solved(state: &Sq1) -> bool
-    ensures { IsTrue result ↔ (state.now ≡ solved_sq1) }
-{
-    !state.equator() && state.units() == Sq1::solved().units()
 }

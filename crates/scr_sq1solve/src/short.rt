@@ -9,9 +9,9 @@ ghost use Rattle.scr_sq1solve.specs.Counts.{twists_in, twists_of, IsWithinBounds
 ghost use Rattle.scr_sq1tables.specs.Stages.{IsScrambleSq1};
 ghost use Rattle.scr_sq1solve.specs.ShortScrambles.{IsShortScramble};
 
-use crate::totals::total_from;
-use scr_notation::{Scramble, Turn, inverse};
-use scr_sq1::Sq1;
+use crate::totals::total_of;
+use scr_notation::{NumberedWord, Scramble};
+use scr_sq1::{Sq1, TWIST};
 use scr_sq1tables::Sq1Tables;
 
 /// The scramble of a Square-1, of at most 76 twists and 153 turns, for which its first `short` words to the square
@@ -24,34 +24,27 @@ pub fn scramble_sq1_short(tables: &Sq1Tables, state: &Sq1, short: u32) -> Scramb
     ensures no_more { (turns : List Letter) → IsScrambleSq1 state.now turns → twists_in result.turns ≤ twists_in turns }
 {
     let words = tables.shape_words(state, short);
-    let mut least = total_from(tables, state, words.word(0));
+    let mut least = total_of(tables, state, words.word(0));
     for place in 1..words.len() {
-        let total = total_from(tables, state, words.word(place));
+        let total = total_of(tables, state, words.word(place));
         let is_shorter = twist_count(&total) < twist_count(&least);
         if is_shorter {
             least = total;
         }
     }
-    inverse(&least)
+    least.taken_back()
 }
 
-/// How many of the turns are twists.
-fn twist_count(scramble: &Scramble) -> usize
-    ensures { result ≡ twists_in scramble.now.turns }
+/// How many of the turns of a Square-1's word are twists.
+fn twist_count(word: &NumberedWord) -> usize
+    requires { word.now.event ≡ EventSq1 }
+    ensures { result ≡ twists_in word.now.turns }
 {
     let mut count = 0;
-    for turn in scramble.turns() {
-        count += twists_of(*turn);
+    for number in word.numbers() {
+        if u32::from(*number) == TWIST {
+            count += 1;
+        }
     }
     count
-}
-
-/// One where a turn is a twist.
-fn twists_of(turn: Turn) -> usize
-    ensures { result ≡ twists_of turn }
-{
-    match turn {
-        Turn::Twist => 1,
-        _ => 0,
-    }
 }

@@ -7,22 +7,20 @@ ghost use Rattle.scr_combinatorics.specs.Tidy.{tidy};
 ghost use Rattle.scr_notation.specs.declared.event.Event.TheVariants.{Sq1 as EventSq1};
 ghost use Rattle.scr_notation.specs.declared.turn.Turn.{Turn as Letter};
 ghost use Rattle.scr_notation.specs.Turning.{opposite, turn_merging};
-ghost use Rattle.scr_sq1.specs.Units.{solved_sq1, sq1_after};
+ghost use Rattle.scr_sq1.specs.Units.{IsSq1, solved_sq1, sq1_after};
 ghost use Rattle.scr_sq1solve.specs.Counts.{twists_in, Costs, IsWithinBounds};
 ghost use Rattle.scr_sq1tables.specs.Stages.{equator_word, shape_letter, shape_stage};
 ghost use Rattle.scr_sq1solve.specs.Totals.{IsTotal};
 ghost use Rattle.scr_sq1tables.specs.ShapeWords.{is_shape_word};
 
 use crate::walks::{Walk, end_walk, stage_walk, walked};
-use scr_notation::{Event, Scramble, push_all, tidy};
+use scr_notation::{Event, NumberedWord, Scramble};
 use scr_sq1::Sq1;
 use scr_sq1tables::{Sq1Tables, StageLetters, equator_word};
 
 /// The solution that a word to the square shape begins, tidied: its total, of at most 76 twists and 153 turns. The word
 /// is told by the numbers of its letters, which are below 144, and is a shape word of the state, of at most 13 letters;
 /// the caller sees to that. The scramble is the total taken back. There is no refusal, and no memory is taken.
-///
-/// It is joined from its end, and each part is tidied when it is joined.
 pub fn total_from(tables: &Sq1Tables, state: &Sq1, shape_word: &[u8]) -> Scramble
     requires shape_word { IsTrue (is_shape_word state.now shape_word.now) }
     requires short { length shape_word.now ≤ 13 }
@@ -32,6 +30,18 @@ pub fn total_from(tables: &Sq1Tables, state: &Sq1, shape_word: &[u8]) -> Scrambl
     ensures within { IsWithinBounds result.turns }
     ensures solves { play sq1_after state.now result.turns ≡ Some solved_sq1 }
     ensures taken_back { play sq1_after solved_sq1 (back opposite result.turns) ≡ Some state.now }
+{
+    total_of(tables, state, shape_word).scramble()
+}
+
+/// The total as a word. It is joined from its end, and each part is tidied when it is joined.
+pub(crate) fn total_of(tables: &Sq1Tables, state: &Sq1, shape_word: &[u8]) -> NumberedWord
+    requires shape_word { IsTrue (is_shape_word state.now shape_word.now) }
+    requires short { length shape_word.now ≤ 13 }
+    ensures event { result.event ≡ EventSq1 }
+    ensures total { IsTotal state.now shape_word.now result.turns }
+    ensures within { IsWithinBounds result.turns }
+    ensures valid { IsSq1 state.now }
 {
     state.is_valid();
     let shaped = shape_walk(state, shape_word);
@@ -61,7 +71,7 @@ fn shape_walk(state: &Sq1, shape_word: &[u8]) -> Walk
 
 /// The word that turns the equator alone, where it stands turned.
 #[tactic(auto, unfolding(scr_combinatorics::specs::Play::count_in))]
-fn equator_part(state: &Sq1) -> Scramble
+fn equator_part(state: &Sq1) -> NumberedWord
     ensures event { result.event ≡ EventSq1 }
     ensures turns { result.turns ≡ (if state.now.equator then equator_word else []) }
     ensures twists { twists_in result.turns ≤ 3 }
@@ -69,13 +79,13 @@ fn equator_part(state: &Sq1) -> Scramble
     if state.equator() {
         equator_word()
     } else {
-        Scramble::new(Event::Sq1)
+        NumberedWord::new(Event::Sq1)
     }
 }
 
 /// Two words one after the other, tidied. Together they have at most 160 turns.
 #[tactic(auto, using(crate::proofs::Cited::joined))]
-fn joined(first: &Scramble, second: &Scramble) -> Scramble
+fn joined(first: &NumberedWord, second: &NumberedWord) -> NumberedWord
     requires first { first.now.event ≡ EventSq1 }
     requires second { second.now.event ≡ EventSq1 }
     requires room { length first.now.turns + length second.now.turns ≤ 160 }
@@ -84,8 +94,8 @@ fn joined(first: &Scramble, second: &Scramble) -> Scramble
     ensures twists { twists_in result.turns ≤ twists_in first.now.turns + twists_in second.now.turns }
     ensures short { length result.turns ≤ 2 * twists_in result.turns + 1 }
 {
-    let mut both = Scramble::new(Event::Sq1);
-    push_all(&mut both, first);
-    push_all(&mut both, second);
-    tidy(&both)
+    let mut both = NumberedWord::new(Event::Sq1);
+    both.push_all(first.numbers());
+    both.push_all(second.numbers());
+    both.tidied()
 }

@@ -11,7 +11,7 @@ ghost use Rattle.scr_sq1solve.specs.Walks.{starts_of, IsInReach, IsWalk, IsWithi
 
 use crate::stages::StageLine;
 use arrayvec::ArrayVec;
-use scr_notation::Scramble;
+use scr_notation::NumberedWord;
 use scr_sq1::Sq1;
 use scr_sq1tables::{NORMAL, StageLetters, letter, shapes_index, word_of};
 use scr_table::{GREATEST_BOUND, LineTable};
@@ -19,7 +19,7 @@ use scr_table::{GREATEST_BOUND, LineTable};
 /// The turns of a word of letters, and the state where they lead.
 #[derive(Drop)]
 pub(crate) struct Walk {
-    pub(crate) turns: Scramble,
+    pub(crate) turns: NumberedWord,
     pub(crate) end: Sq1,
 }
 
@@ -62,7 +62,7 @@ pub(crate) fn walked(letters: StageLetters, numbers: &[u8], state: &Sq1) -> Walk
     ensures end { play sq1_after state.now result.turns.turns ≡ Some result.end }
 {
     let turns = word_of(letters, numbers);
-    match state.play(&turns) {
+    match state.after_word(&turns) {
         Some(end) => Walk { turns, end },
         None => unreachable!(),
     }
@@ -79,7 +79,7 @@ pub(crate) fn end_walk(letters: StageLetters, state: &Sq1) -> Walk
 {
     for number in 0..letter_count(letters) {
         let turns = letter(letters, number);
-        if let Some(end) = state.play(&turns) {
+        if let Some(end) = state.after_word(&turns) {
             if is_ended(letters, &end) {
                 return Walk { turns, end };
             }

@@ -1,81 +1,93 @@
 -- Letters as words: how they are put together turn by turn.
-use Rattle.std.proofs.Common.{◌≡◌, Bool, true, false, cond, List, [], ◌∷◌, ◌++◌, Some, None, refl, sym, ap, ◌∙◌, ℕ}
-use Rattle.std.specs.Prelude.{ℕ, ℤ, pos, negsuc, ◌%◌, nat_lt, flat_map}
+use Rattle.std.proofs.Common.{◌≡◌, ℕ, ◌+◌, ◌*◌, ◌/◌, ◌%◌, ◌-◌, ◌<◌, Bool, true, false, cond, List, [], ◌∷◌, ◌++◌, refl, sym, ap, ap₂, ◌∙◌, arith, eqb, eq-eqb, ne_eqb}
+use Rattle.std.specs.Prelude.{ℤ, pos, ◌+ℤ◌, ◌-ℤ◌, ◌==◌, map}
 use Rattle.std.proofs.lemmas.Bool.{cond-true, cond-false}
-use Rattle.std.proofs.lemmas.List.{append-nil}
+use Rattle.std.proofs.lemmas.Bool.Decides.{nat_tests}
+use Rattle.std.proofs.lemmas.Int.{ints}
+use Rattle.std.proofs.lemmas.List.{append_assoc, append-nil}
 use Rattle.scr_notation.specs.declared.event.Event.TheVariants.{Sq1}
 use Rattle.scr_notation.specs.declared.turn.Turn.{Turn}
-use Rattle.scr_notation.specs.declared.turn.Turn.TheVariants.{Layers}
-use Rattle.scr_combinatorics.specs.Tidy.{word_of}
+use Rattle.scr_notation.specs.declared.turn.Turn.TheVariants.{Layers, Twist}
+use Rattle.scr_notation.specs.Event.{kind_of}
 use Rattle.scr_notation.specs.Layers.{twelfths, are_still}
-use Rattle.scr_notation.specs.Turning.{layers_turned}
+use Rattle.scr_notation.specs.TurnNumbers.{layer_turn_at, turn_at}
 use Rattle.scr_notation.specs.Written.{Written}
-use Rattle.scr_sq1tables.specs.Stages.{turn_word, quarter_word, shape_letter, pairing_letter, home_letter, edge_word, corner_word}
-use Rattle.scr_sq1tables.specs.Letters.{first_word, step_word}
-use Rattle.scr_sq1tables.specs.declared.stage_letters.StageLetters.TheVariants.{OfShapes, OfPairings, OfHome}
-use Rattle.scr_sq1tables.specs.declared.stage_letters.Step.{Step}
-use Rattle.scr_sq1tables.specs.declared.stage_letters.Step.TheVariants.{Turned, Twisted}
+use Rattle.scr_notation.proofs.LayersLaws.{twelfths-only}
+use Rattle.scr_sq1tables.specs.Stages.{turn_word}
+use Rattle.scr_sq1tables.specs.Letters.{layers_word}
 
--- ---- turns of the layers
+abbrev turns : List ℕ → List Turn
+turns later = map layer_turn_at later
 
--- a turn of the layers is a word of one turn, or of none
-turn_word-is : (x y : ℤ) → turn_word x y ≡ word_of (layers_turned (twelfths x) (twelfths y))
-unfolding turn_word word_of
-turn_word-is x y = by_test (are_still (twelfths x) (twelfths y)) (Layers (twelfths x) (twelfths y)) where
-  by_test : (b : Bool) (t : Turn) → cond b [] (t ∷ []) ≡ word_of (cond b None (Some t))
-  by_test true t = refl
-  by_test false t = refl
+-- ---- the first turn, by its number
 
--- ---- letters by their first turn and their later steps
+-- the turn by so many twelfths, by their places among the twelve
+pub layers_word-at : (i j : ℕ) (x y : ℤ) → i < 12 → j < 12 → twelfths x ≡ pos i -ℤ pos 5 → twelfths y ≡ pos j -ℤ pos 5
+    → layers_word (12 * i + j) ≡ turn_word x y
+unfolding turn_word layer_turn_at
+layers_word-at i j x y l m top bottom =
+    let n : ℕ = 12 * i + j in
+    let still : are_still (pos i -ℤ pos 5) (pos j -ℤ pos 5) ≡ (n == 65) = grind (arith, ints, nat_tests) in
+    of_test (n == 65) refl (omega arith) (omega arith)
+    ∙ ap of_turn (sym still) ∙ ap₂ (λ a b. cond (are_still a b) [] (Layers a b ∷ [])) (sym top) (sym bottom)
+  where
+    of_turn : Bool → List Turn
+    of_turn is_still = cond is_still [] (Layers (pos i -ℤ pos 5) (pos j -ℤ pos 5) ∷ [])
 
-pub turn_word-same : {x y a b : ℤ} → x ≡ a → y ≡ b → turn_word x y ≡ turn_word a b
-turn_word-same {x} {y} {a} {b} top bottom = ap (λ z. turn_word z y) top ∙ ap (turn_word a) bottom
+    of_test : (b : Bool) → eqb (12 * i + j) 65 ≡ b → (12 * i + j) / 12 ≡ i → (12 * i + j) % 12 ≡ j
+        → cond b [] (layer_turn_at (12 * i + j) ∷ []) ≡ of_turn b
+    of_test true e row column = refl
+    of_test false e row column =
+        let n : ℕ = 12 * i + j in
+        ap (λ t. t ∷ []) (ap (λ b. cond b Twist (Layers (pos (n / 12) -ℤ pos 5) (pos (n % 12) -ℤ pos 5))) e
+        ∙ ap₂ (λ a b. Layers (pos a -ℤ pos 5) (pos b -ℤ pos 5)) row column)
 
-abbrev steps : List Step → List Turn
-steps later = flat_map step_word later
+-- the place of an amount among the twelve, with so many whole turns more on either side
+pub place_at : (z : ℤ) (i turns more : ℕ) → i < 12 → z +ℤ pos (12 * turns) ≡ (pos i -ℤ pos 5) +ℤ pos (12 * more)
+    → twelfths z ≡ pos i -ℤ pos 5
+place_at z i turns more l same =
+    twelfths-only z (pos i -ℤ pos 5) (record {
+      turns = turns;
+      turns_more = more;
+      same = same;
+      within = record { low = omega (arith, ints); high = omega (arith, ints) };
+    })
 
-pub shape-steps : (n : ℕ) → shape_letter n ≡ first_word OfShapes n ++ steps (Twisted ∷ [])
-unfolding shape_letter
-shape-steps n = refl
+-- so many twelfths clockwise, one less, and one more
+pub place_on : (m : ℕ) → twelfths (pos m) ≡ pos ((m + 5) % 12) -ℤ pos 5
+place_on m = place_at (pos m) ((m + 5) % 12) 0 ((m + 5) / 12) (omega arith) (omega (arith, ints))
 
-pub pairing-low : (n : ℕ) → nat_lt n 16 ≡ true
-    → pairing_letter n ≡ first_word OfPairings n ++ steps (Twisted ∷ Turned (pos 0) (pos 1) ∷ [])
-unfolding pairing_letter turn_word
-pairing-low n e = cond-true (nat_lt n 16) _ _ e ∙ ap (λ w. w ++ steps (Twisted ∷ Turned (pos 0) (pos 1) ∷ [])) (sym (cond-true (nat_lt n 16) _ _ e))
+pub place_less : (m : ℕ) → twelfths (pos m -ℤ pos 1) ≡ pos ((m + 5 - 1) % 12) -ℤ pos 5
+place_less m = place_at (pos m -ℤ pos 1) ((m + 5 - 1) % 12) 1 ((m + 4) / 12 + 1) (omega arith) (omega (arith, ints))
 
-pub pairing-high : (n : ℕ) → nat_lt n 16 ≡ false
-    → pairing_letter n ≡ first_word OfPairings n ++ steps (Twisted ∷ Turned (negsuc 0) (pos 0) ∷ [])
-unfolding pairing_letter turn_word
-pairing-high n e = cond-false (nat_lt n 16) _ _ e ∙ ap (λ w. w ++ steps (Twisted ∷ Turned (negsuc 0) (pos 0) ∷ [])) (sym (cond-false (nat_lt n 16) _ _ e))
-
-pub home-low : (n : ℕ) → nat_lt n 16 ≡ true → home_letter n
-    ≡ first_word OfHome n ++ steps (Turned (pos 0) (negsuc 0) ∷ Twisted ∷ Turned (pos 1) (pos 1) ∷ Twisted ∷ Turned (negsuc 0) (pos 0) ∷ [])
-unfolding home_letter turn_word
-home-low n e = ap (λ w. quarter_word (n % 16) ++ w) (cond-true (nat_lt n 16) edge_word corner_word e)
-
-pub home-high : (n : ℕ) → nat_lt n 16 ≡ false → home_letter n
-    ≡ first_word OfHome n ++ steps (Turned (pos 0) (negsuc 0) ∷ Twisted ∷ Turned (negsuc 1) (negsuc 1) ∷ Twisted ∷ Turned (pos 2) (pos 3) ∷ [])
-unfolding home_letter turn_word
-home-high n e = ap (λ w. quarter_word (n % 16) ++ w) (cond-false (nat_lt n 16) edge_word corner_word e)
+pub place_more : (m : ℕ) → twelfths (pos m +ℤ pos 1) ≡ pos ((m + 5 + 1) % 12) -ℤ pos 5
+place_more m = place_at (pos m +ℤ pos 1) ((m + 5 + 1) % 12) 0 ((m + 5 + 1) / 12) (omega arith) (omega (arith, ints))
 
 -- ---- letters that are written turn by turn
 
 abbrev pub written : List Turn → Written
 written turns = record { event = Sq1; turns = turns }
 
--- no turn, or one, behind a word
-pub still-written : (v : Written) (x y : ℤ) → v.event ≡ Sq1 → layers_turned (twelfths x) (twelfths y) ≡ None
-    → v ≡ written (v.turns ++ turn_word x y)
-unfolding word_of
-still-written v x y event none =
-    let no_turn : turn_word x y ≡ [] = turn_word-is x y ∙ ap word_of none in
-    let whole = append-nil v.turns in
-    let same : (let w : Written = record { event = v.event; turns = v.turns } in w ≡ written (v.turns ++ turn_word x y)) = cc in
-    same
+-- the first turn behind a word, or none
+pub first-written : (v w : Written) (n : ℕ) → v.event ≡ Sq1 → (n ≡ 65 → ⊥)
+    → w ≡ record { event = v.event; turns = v.turns ++ turn_at (kind_of v.event) n ∷ [] } → w ≡ written (v.turns ++ layers_word n)
+unfolding turn_at
+first-written v w n event other made =
+    let one : layers_word n ≡ layer_turn_at n ∷ [] = cond-false (n == 65) _ _ (ne_eqb n 65 other) in
+    made ∙ ap (λ e. record { event = e; turns = v.turns ++ turn_at (kind_of e) n ∷ [] }) event
+    ∙ ap (λ more. written (v.turns ++ more)) (sym one)
 
-pub layers-written : (v w : Written) (x y : ℤ) (t : Turn) → v.event ≡ Sq1 → layers_turned (twelfths x) (twelfths y) ≡ Some t
-    → w ≡ record { event = v.event; turns = v.turns ++ t ∷ [] } → w ≡ written (v.turns ++ turn_word x y)
-unfolding word_of
-layers-written v w x y t event some made =
-    let one : turn_word x y ≡ t ∷ [] = turn_word-is x y ∙ ap word_of some in
-    cc
+pub first-left_out : (v w : Written) (n : ℕ) → v.event ≡ Sq1 → n ≡ 65 → w ≡ v → w ≡ written (v.turns ++ layers_word n)
+first-left_out v w n event none same =
+    let no_turn : layers_word n ≡ [] = cond-true (n == 65) _ _ (eq-eqb n 65 none) in
+    same ∙ ap (λ e. record { event = e; turns = v.turns }) event
+    ∙ ap written (sym (append-nil v.turns) ∙ ap (λ more. v.turns ++ more) (sym no_turn))
+
+-- and the later ones
+pub letter-written : (v w : Written) (first later letter : List Turn) (numbers : List ℕ) → v ≡ written (first ++ later)
+    → w ≡ record { event = v.event; turns = v.turns ++ map (turn_at (kind_of v.event)) numbers } → letter ≡ later ++ turns numbers
+    → w ≡ written (first ++ letter)
+unfolding turn_at
+letter-written v w first later letter numbers is made spelled =
+    made ∙ ap (λ (u : Written). record { event = u.event; turns = u.turns ++ map (turn_at (kind_of u.event)) numbers }) is
+    ∙ ap written (append_assoc first later (turns numbers) ∙ ap (λ more. first ++ more) (sym spelled))

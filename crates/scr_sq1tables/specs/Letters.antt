@@ -1,13 +1,11 @@
 -- The letters of the stages, each kind by its name, and the turns that their words come to.
-use Rattle.std.specs.Prelude.{ℕ, ◌/◌, ◌%◌, nat_lt, pos, ◌-ℤ◌, ◌+ℤ◌, if◌then◌else◌, List, [], ◌∷◌}
+use Rattle.std.specs.Prelude.{ℕ, ◌/◌, ◌%◌, ◌==◌, nat_lt, pos, ◌-ℤ◌, ◌+ℤ◌, if◌then◌else◌, List, [], ◌∷◌}
 use Rattle.scr_notation.specs.declared.turn.Turn.{Turn}
-use Rattle.scr_notation.specs.declared.turn.Turn.TheVariants.{Twist}
+use Rattle.scr_notation.specs.TurnNumbers.{layer_turn_at}
 use Rattle.scr_sq1.specs.Units.{Sq1State}
 use Rattle.scr_sq1tables.specs.Stages.{turn_word, quarters, quarter_word, squaring_letter, shape_stage, squaring_stage, pairing_stage, home_stage, last_stage}
 use Rattle.scr_sq1tables.specs.declared.stage_letters.StageLetters.{StageLetters}
 use Rattle.scr_sq1tables.specs.declared.stage_letters.StageLetters.TheVariants.{OfShapes, OfPairings, OfHome, Squarings, Quarters}
-use Rattle.scr_sq1tables.specs.declared.stage_letters.Step.{Step}
-use Rattle.scr_sq1tables.specs.declared.stage_letters.Step.TheVariants.{Turned, Twisted}
 use Rattle.scr_combinatorics.specs.Stages.{Stage}
 
 -- the stage with these letters
@@ -32,7 +30,6 @@ first_word OfHome n = quarter_word (n % 16)
 first_word Squarings n = squaring_letter n
 first_word Quarters n = quarter_word n
 
--- a step as a word
-abbrev pub step_word : Step → List Turn
-step_word (Turned top bottom) = turn_word top bottom
-step_word Twisted = Twist ∷ []
+-- the turn of the layers with this number as a word: none where neither turns, whose number is the twist's
+abbrev pub layers_word : ℕ → List Turn
+layers_word n = if n == 65 then [] else layer_turn_at n ∷ []

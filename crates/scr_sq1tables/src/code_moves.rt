@@ -100,22 +100,11 @@ impl CodeMoves {
         ensures value { Some result ≡ (moves_coordinate self.now.rows).after (row_place position) turn }
         ensures below { result < 384 }
     {
-        target(
-            &self.rows,
-            position % 192 + 192 * row_parity(position / 192),
-            turn,
-        )
+        // whether the list of corners is odd, by the bits of its code
+        let bits = position / 192 % 16;
+        let odd = (bits % 2 + bits / 2 % 2 + bits / 2 / 2 % 2 + bits / 2 / 2 / 2 % 2) % 2;
+        target(&self.rows, position % 192 + 192 * odd, turn)
     }
-}
-
-/// 1 where the list of corners with a code is odd.
-#[inline]
-fn row_parity(corners: u32) -> u32
-    ensures value { result ≡ row_parity corners }
-    ensures below { result < 2 }
-{
-    let bits = corners % 16;
-    (bits % 2 + bits / 2 % 2 + bits / 2 / 2 % 2 + bits / 2 / 2 / 2 % 2) % 2
 }
 
 /// Where a letter leads that is not barred.
@@ -154,6 +143,7 @@ impl Drop for SquareMoves {
 
 impl SquareMoves {
     /// The moves. Only memory can be wanting.
+    #[tactic(auto, using(crate::proofs::Cited::square_moves_build))]
     pub fn build(alloc: Global) -> Result<SquareMoves, NoMemory> {
         Ok(SquareMoves {
             home: CodeMoves::build(alloc, StageLetters::OfHome)?,

@@ -1,5 +1,5 @@
 //! The lists of edges in the rows of the table `square`, as a coordinate.
-ghost use Rattle.std.specs.Prelude.{◌≡◌, ◌<◌};
+ghost use Rattle.std.specs.Prelude.{◌≡◌};
 ghost use Rattle.std.proofs.Props.{props};
 ghost use Rattle.scr_positions.specs.Coordinates.{StaysBelow};
 ghost use Rattle.scr_positions.specs.Moves.{moves_coordinate};
@@ -7,7 +7,6 @@ ghost use Rattle.scr_positions.specs.SearchSpaces.{ShowsSame};
 ghost use Rattle.scr_sq1.specs.Numbers.{edges_of};
 ghost use Rattle.scr_sq1tables.specs.Codes.{codes_coordinate, rows_coordinate};
 ghost use Rattle.scr_sq1tables.specs.Letters.{letter_of};
-ghost use Rattle.scr_sq1tables.specs.Tables.{code_in_row};
 
 use crate::stage_letters::StageLetters;
 use scr_positions::{Coord, MoveTable};
@@ -34,17 +33,6 @@ impl<'a> EdgeRows<'a> {
     }
 }
 
-/// The code of the list of edges at a place.
-fn code_in_row(place: u32) -> u32
-    requires { place < 384 }
-    ensures value { result ≡ code_in_row place }
-    ensures below { result < 384 }
-{
-    let low = place % 8;
-    let last = low % 2 + low / 2 % 2 + low / 2 / 2 % 2 + place / 192;
-    low + 8 * (last % 2) + 16 * (place / 8 % 24)
-}
-
 impl Coord for EdgeRows<'_> {
     ghost coordinate = { λ rows. rows_coordinate (letter_of rows.letters) };
 
@@ -57,8 +45,12 @@ impl Coord for EdgeRows<'_> {
     }
 
     fn after(&self, position: u32, turn: u32) -> Option<u32> {
+        // the code of the list of edges at this place
+        let low = position % 8;
+        let last = low % 2 + low / 2 % 2 + low / 2 / 2 % 2 + position / 192;
+        let code = low + 8 * (last % 2) + 16 * (position / 8 % 24);
         self.edges
-            .after(code_in_row(position), turn)
+            .after(code, turn)
             .map(|code| code % 8 + 8 * (code / 16))
     }
 

@@ -3,7 +3,7 @@ ghost use Rattle.std.specs.Prelude.{◌≡◌, ◌<◌};
 ghost use Rattle.scr_sq1.specs.Units.{IsSq1};
 ghost use Rattle.scr_sq1tables.specs.Tables.{shapes_index, pairings_index, square_index};
 
-use crate::pieces::{code_of, pairing_of};
+use crate::pieces::{MATES, carried_pairing, code_of};
 use scr_rank::Pairing8;
 use scr_rank::permutations::is_odd;
 use scr_sq1::{Sq1, shape_number};
@@ -21,13 +21,14 @@ pub fn shapes_index(state: &Sq1) -> u32
 }
 
 /// The index of a normal state in the table `pairings`, below 11,025.
+#[tactic(auto, unfolding(crate::specs::Stages::pairing_of, crate::specs::Tables::carried_pairing))]
 pub fn pairings_index(state: &Sq1) -> u32
     ensures value { result ≡ pairings_index state.now }
     ensures below { result < 11025 }
     ensures valid { IsSq1 state.now }
 {
-    let corners = Pairing8::rank(&pairing_of(&state.corners())) as u32;
-    let edges = Pairing8::rank(&pairing_of(&state.edges())) as u32;
+    let corners = Pairing8::rank(&carried_pairing(&MATES, &state.corners())) as u32;
+    let edges = Pairing8::rank(&carried_pairing(&MATES, &state.edges())) as u32;
     corners + 105 * edges
 }
 

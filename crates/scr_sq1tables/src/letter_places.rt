@@ -1,5 +1,5 @@
 //! What the letters of the later stages do to the places of a normal state.
-ghost use Rattle.std.specs.Prelude.{◌≡◌, ◌<◌, map};
+ghost use Rattle.std.specs.Prelude.{◌≡◌, map};
 ghost use Rattle.scr_combinatorics.specs.Lists.{numbers_from};
 ghost use Rattle.scr_sq1tables.specs.Tables.{units_after};
 ghost use Rattle.scr_sq1tables.specs.Letters.{letter_of};
@@ -17,12 +17,16 @@ pub(crate) enum Part {
 
 /// For each of the first 32 letters of a kind, the place from which each place gets its piece, which is seen at the
 /// solved state.
+#[tactic(auto, using(crate::proofs::Cited::letter_places), unfolding(crate::specs::Tables::units_after))]
 pub(crate) fn letter_places(letters: StageLetters, part: Part) -> [[u8; 8]; 32]
     ensures { result ≡ map (λ n. pieces part (units_after (letter_of letters) n)) (numbers_from 0 32) }
 {
     let mut places = [[0; 8]; 32];
     for number in 0..32 {
-        let state = after_solved(letters, number as u8);
+        // no letter is barred there
+        let state = Sq1::solved()
+            .after_word(&letter(letters, number as u8))
+            .unwrap_or(Sq1::solved());
         places[number] = pieces(&state, part);
     }
     places
@@ -36,15 +40,4 @@ fn pieces(state: &Sq1, part: Part) -> [u8; 8]
         Part::Corners => state.corners(),
         Part::Edges => state.edges(),
     }
-}
-
-/// What a letter makes of the solved state, which it doesn't bar.
-#[tactic(auto, unfolding(crate::specs::Tables::units_after))]
-fn after_solved(letters: StageLetters, number: u8) -> Sq1
-    requires { number < 144 }
-    ensures { result.units ≡ units_after (letter_of letters) number }
-{
-    Sq1::solved()
-        .play(&letter(letters, number))
-        .unwrap_or(Sq1::solved())
 }

@@ -11,7 +11,7 @@ use scr_rank::PermRank;
 use scr_rank::permutations::rank_permutation;
 
 /// Each place's opposite one, in its layer of a solved state; of pieces it is the mate.
-const MATES: [u8; 8] = [2, 3, 0, 1, 6, 7, 4, 5];
+pub(crate) const MATES: [u8; 8] = [2, 3, 0, 1, 6, 7, 4, 5];
 
 /// Which pair a piece is of, from 0; of places it is the same.
 const PAIR_OF: [u8; 8] = [0, 1, 0, 1, 2, 3, 2, 3];
@@ -33,16 +33,6 @@ pub(crate) fn place_of(number: u8, list: &[u8; 8]) -> u8
         }
     }
     8
-}
-
-/// At each place the place of the mate of the piece that stands there.
-#[tactic(auto, unfolding(crate::specs::Stages::pairing_of, crate::specs::Tables::carried_pairing))]
-pub(crate) fn pairing_of(pieces: &[u8; 8]) -> [u8; 8]
-    requires { IsPermutation 8 pieces.now }
-    ensures value { result ≡ pairing_of pieces.now }
-    ensures valid { IsPairing 8 result }
-{
-    carried_pairing(&MATES, pieces)
 }
 
 /// Partners when pieces are moved, where each place gets the piece of a named place.
@@ -84,30 +74,11 @@ pub(crate) fn code_of(pieces: &[u8; 8]) -> u32
 {
     let mut standing = [0; 4];
     pick_into(&pieces[..], &SMALLER[..], &mut standing[..]);
-    bits_of(&standing) + 16 * pairs_of(&standing)
-}
-
-/// The number of the bits, by the pieces on the smaller places.
-fn bits_of(standing: &[u8; 4]) -> u32
-    requires { All (λ piece. piece < 8) standing.now }
-    ensures value { result ≡ slice_index is_larger (slice_index standing.now 0) + 2 * (slice_index is_larger (slice_index standing.now 1)
-        + 2 * (slice_index is_larger (slice_index standing.now 2) + 2 * slice_index is_larger (slice_index standing.now 3))) }
-    ensures below { result < 16 }
-{
-    larger(standing[0])
-        + 2 * (larger(standing[1]) + 2 * (larger(standing[2]) + 2 * larger(standing[3])))
-}
-
-/// The number of the list of the pairs, by the pieces on the smaller places.
-#[tactic(auto, using(crate::proofs::Cited::pairs_of))]
-fn pairs_of(standing: &[u8; 4]) -> u32
-    requires { All (λ piece. piece < 8) standing.now }
-    ensures value { result ≡ permutation_number (pick pair_of standing.now) }
-    ensures below { result < 24 }
-{
+    let bits = larger(standing[0])
+        + 2 * (larger(standing[1]) + 2 * (larger(standing[2]) + 2 * larger(standing[3])));
     let mut pairs = [0; 4];
     pick_into(&PAIR_OF[..], &standing[..], &mut pairs[..]);
-    rank_permutation(&pairs[..]) as u32
+    bits + 16 * rank_permutation(&pairs[..]) as u32
 }
 
 /// 1 where a piece is the larger one of its pair.

@@ -39,40 +39,23 @@ pub(crate) struct ShapeStates {
 }
 
 impl ShapeStates {
-    /// The states. Only memory can be wanting.
+    /// The states. In each the corners are in order, and so are the edges, but for two where the index is odd. Only
+    /// memory can be wanting.
     #[tactic(auto, using(crate::proofs::Cited::shape_states_build))]
     pub fn build(alloc: Global) -> Result<ShapeStates, AllocError> {
         let mut states = Vec::with_capacity(alloc, INDEXES as usize)?;
         for index in 0..INDEXES {
-            states.push(state_of(index))?;
+            let edges = EXCHANGED * u128::from(index % 2);
+            let number = 2 * LISTS * (edges + LISTS * u128::from(index / 2));
+            states.push(Sq1Numbers.state_at(number))?;
         }
         Ok(ShapeStates { states })
     }
-
-    /// The state that stands for an index.
-    #[inline]
-    #[tactic(auto, using(crate::proofs::Cited::state_at))]
-    fn state_at(&self, index: u32) -> &Sq1
-        requires { index < 7356 }
-        ensures { result.now ≡ shapes_state index }
-    {
-        &self.states[index as usize]
-    }
-}
-
-/// The state that stands for an index: the corners are in order, and so are the edges, but for two where the index is
-/// odd.
-#[tactic(auto, using(crate::proofs::Cited::state_of))]
-fn state_of(index: u32) -> Sq1
-    requires { index < 7356 }
-    ensures { result ≡ shapes_state index }
-{
-    let edges = EXCHANGED * u128::from(index % 2);
-    Sq1Numbers.state_at(2 * LISTS * (edges + LISTS * u128::from(index / 2)))
 }
 
 /// A state after a part of a letter of the first stage, or none where it is barred.
 #[inline]
+#[tactic(auto, using(crate::proofs::Cited::after_part))]
 fn after_part(state: &Sq1, part: u32) -> Option<Sq1>
     requires { part < 25 }
     ensures { result ≡ play sq1_after state.now (shape_part part) }
@@ -105,7 +88,7 @@ impl Coord for ShapeStates {
         if turn == STILL_TOP || turn == STILL_BOTTOM {
             return Some(position);
         }
-        let end = after_part(self.state_at(position), turn)?;
+        let end = after_part(&self.states[position as usize], turn)?;
         Some(shapes_index(&end))
     }
 

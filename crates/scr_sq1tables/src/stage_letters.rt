@@ -1,11 +1,12 @@
 //! The letters of the stages, as words of turns.
-ghost use Rattle.std.specs.Prelude.{◌≡◌, ◌+◌, ◌<◌, ◌≤◌, [], ◌++◌, All, flat_map, length};
+ghost use Rattle.std.specs.Prelude.{◌≡◌, ◌+◌, ◌<◌, ◌≤◌, ◌++◌, All, length, map};
 ghost use Rattle.scr_notation.specs.declared.event.Event.TheVariants.{Sq1 as EventSq1};
-ghost use Rattle.scr_sq1tables.specs.Stages.{turn_word, equator_word};
-ghost use Rattle.scr_sq1tables.specs.Letters.{step_word, first_word, letter_of};
+ghost use Rattle.scr_notation.specs.TurnNumbers.{layer_turn_at};
+ghost use Rattle.scr_sq1tables.specs.Stages.{equator_word};
+ghost use Rattle.scr_sq1tables.specs.Letters.{first_word, layers_word, letter_of};
 ghost use Rattle.scr_combinatorics.specs.Stages.{spelled};
 
-use scr_notation::{Event, Scramble, Turn, layers_turned, push_turn};
+use scr_notation::{Event, NumberedWord};
 
 /// The letters of which stage.
 #[derive(Clone, Copy, Debug, PartialEq, Eq)]
@@ -22,69 +23,26 @@ pub enum StageLetters {
     Quarters,
 }
 
-/// What letters are made of.
-#[derive(Clone, Copy)]
-pub(crate) enum Step {
-    /// The top and the bottom turned by so many twelfths.
-    Turned(i16, i16),
-    /// A twist.
-    Twisted,
-}
-
-/// What stands behind the turn of a letter of the first stage.
-static TWIST: [Step; 1] = [Step::Twisted];
-
-/// Of a letter of the second stage with a number below 16.
-static TWIST_AND_BOTTOM: [Step; 2] = [Step::Twisted, Step::Turned(0, 1)];
-
-/// Of the others.
-static TWIST_AND_TOP: [Step; 2] = [Step::Twisted, Step::Turned(-1, 0)];
-
-/// Of a letter of the third stage that exchanges edges.
-static EDGES_EXCHANGED: [Step; 5] = [
-    Step::Turned(0, -1),
-    Step::Twisted,
-    Step::Turned(1, 1),
-    Step::Twisted,
-    Step::Turned(-1, 0),
-];
-
-/// Of one that exchanges corners.
-static CORNERS_EXCHANGED: [Step; 5] = [
-    Step::Turned(0, -1),
-    Step::Twisted,
-    Step::Turned(-2, -2),
-    Step::Twisted,
-    Step::Turned(2, 3),
-];
-
-/// What turns the equator alone.
-static EQUATOR_TURNED: [Step; 6] = [
-    Step::Twisted,
-    Step::Turned(6, 0),
-    Step::Twisted,
-    Step::Turned(6, 0),
-    Step::Twisted,
-    Step::Turned(6, 0),
-];
+/// The number of the twist among a Square-1's turns: it stands where the turn would that leaves both layers.
+const TWIST: u8 = 65;
 
 /// The word of the letter with a number, which is below 144.
-pub fn letter(letters: StageLetters, number: u8) -> Scramble
+pub fn letter(letters: StageLetters, number: u8) -> NumberedWord
     requires { number < 144 }
     ensures { result ≡ record { event = EventSq1; turns = letter_of letters number } }
 {
-    let mut word = Scramble::new(Event::Sq1);
+    let mut word = NumberedWord::new(Event::Sq1);
     push_letter(&mut word, letters, number);
     word
 }
 
 /// The turns of a word of at most 25 letters, whose numbers are below 144.
-pub fn word_of(letters: StageLetters, numbers: &[u8]) -> Scramble
+pub fn word_of(letters: StageLetters, numbers: &[u8]) -> NumberedWord
     requires numbers { All (λ number. number < 144) numbers.now }
     requires few { length numbers.now ≤ 25 }
     ensures { result ≡ record { event = EventSq1; turns = spelled (letter_of letters) numbers.now } }
 {
-    let mut word = Scramble::new(Event::Sq1);
+    let mut word = NumberedWord::new(Event::Sq1);
     for place in 0..numbers.len() {
         push_letter(&mut word, letters, numbers[place]);
     }
@@ -92,111 +50,61 @@ pub fn word_of(letters: StageLetters, numbers: &[u8]) -> Scramble
 }
 
 /// The word that turns the equator alone.
-#[tactic(auto, unfolding(crate::specs::Stages::turn_word))]
-pub fn equator_word() -> Scramble
+#[tactic(auto, unfolding(scr_notation::specs::TurnNumbers::turn_at, scr_notation::specs::TurnNumbers::layer_turn_at))]
+pub fn equator_word() -> NumberedWord
     ensures { result ≡ record { event = EventSq1; turns = equator_word } }
 {
-    let mut word = Scramble::new(Event::Sq1);
-    push_steps(&mut word, &EQUATOR_TURNED[..]);
-    word
+    NumberedWord::of(Event::Sq1, &[TWIST, 137, TWIST, 137, TWIST, 137])
 }
 
 /// Adds the turns of the letter with a number, which is below 144, to a word with room for six more.
-fn push_letter(word: &mut Scramble, letters: StageLetters, number: u8)
+fn push_letter(word: &mut NumberedWord, letters: StageLetters, number: u8)
     requires number { number < 144 }
     requires event { word.old.event ≡ EventSq1 }
     requires room { length word.old.turns + 6 ≤ 160 }
     ensures word { word.new ≡ record { event = EventSq1; turns = word.old.turns ++ letter_of letters number } }
     ensures few { length word.new.turns ≤ length word.old.turns + 6 }
 {
-    let (top, bottom) = first_turn(letters, number);
-    push_layers(word, top, bottom);
-    push_steps(word, later_steps(letters, number));
+    let first = first_number(letters, number);
+    if first != TWIST {
+        word.push(first);
+    }
+    word.push_all(later_numbers(letters, number));
 }
 
-/// By how many twelfths the letter with a number turns the top and the bottom at first.
-#[tactic(auto, using(crate::proofs::Cited::first_turn), unfolding(crate::specs::Stages::quarter_word, crate::specs::Stages::squaring_letter))]
-fn first_turn(letters: StageLetters, number: u8) -> (i16, i16)
+/// The number of the turn of the layers with which the letter with a number begins: the twist's where it begins with
+/// none.
+#[tactic(auto, using(crate::proofs::Cited::first_number), unfolding(crate::specs::Stages::quarter_word, crate::specs::Stages::squaring_letter))]
+fn first_number(letters: StageLetters, number: u8) -> u8
     requires { number < 144 }
-    ensures { turn_word result.0 result.1 ≡ first_word letters number }
+    ensures turn { layers_word result ≡ first_word letters number }
+    ensures below { result < 144 }
 {
-    let top = (3 * (number % 16 / 4)) as i16;
-    let bottom = (3 * (number % 4)) as i16;
+    let top = 3 * (number % 16 / 4) + 5;
+    let bottom = 3 * (number % 4) + 5;
     match letters {
-        StageLetters::OfShapes => ((number / 12) as i16 - 5, (number % 12) as i16 - 5),
-        StageLetters::OfPairings => {
-            if number < 16 {
-                (top, bottom - 1)
-            } else {
-                (top + 1, bottom)
-            }
-        }
-        StageLetters::OfHome => (top, bottom),
-        StageLetters::Squarings => (-((number % 2) as i16), (number / 2) as i16),
-        StageLetters::Quarters => ((3 * (number / 4)) as i16, bottom),
+        StageLetters::OfShapes => number,
+        StageLetters::OfPairings if number < 16 => 12 * (top % 12) + (bottom - 1) % 12,
+        StageLetters::OfPairings => 12 * ((top + 1) % 12) + bottom % 12,
+        StageLetters::OfHome => 12 * (top % 12) + bottom % 12,
+        StageLetters::Squarings => 12 * (5 - number % 2) + (5 + number / 2) % 12,
+        StageLetters::Quarters => 12 * ((3 * (number / 4) + 5) % 12) + bottom % 12,
     }
 }
 
-/// The steps of the letter with a number behind its first turn.
-fn later_steps(letters: StageLetters, number: u8) -> &'static [Step]
-    ensures letter { letter_of letters number ≡ first_word letters number ++ flat_map step_word result.now }
+/// The numbers of the turns of the letter with a number behind its first turn.
+#[tactic(auto, using(crate::proofs::Cited::later_numbers), unfolding(crate::specs::Stages::shape_letter, crate::specs::Stages::pairing_letter, crate::specs::Stages::home_letter, crate::specs::Stages::turn_word, scr_notation::specs::TurnNumbers::layer_turn_at))]
+fn later_numbers(letters: StageLetters, number: u8) -> &'static [u8]
+    ensures letter { letter_of letters number ≡ first_word letters number ++ map layer_turn_at result.now }
+    ensures below { All (λ n. n < 144) result.now }
     ensures few { length result.now ≤ 5 }
 {
     match letters {
-        StageLetters::OfShapes => &TWIST[..],
-        StageLetters::OfPairings => {
-            if number < 16 {
-                &TWIST_AND_BOTTOM[..]
-            } else {
-                &TWIST_AND_TOP[..]
-            }
-        }
-        StageLetters::OfHome => {
-            if number < 16 {
-                &EDGES_EXCHANGED[..]
-            } else {
-                &CORNERS_EXCHANGED[..]
-            }
-        }
+        StageLetters::OfShapes => &[TWIST],
+        StageLetters::OfPairings if number < 16 => &[TWIST, 66],
+        StageLetters::OfPairings => &[TWIST, 53],
+        StageLetters::OfHome if number < 16 => &[64, TWIST, 78, TWIST, 53],
+        StageLetters::OfHome => &[64, TWIST, 39, TWIST, 92],
         StageLetters::Squarings | StageLetters::Quarters => &[],
-    }
-}
-
-/// Adds steps to a word that has room for them.
-fn push_steps(word: &mut Scramble, steps: &[Step])
-    requires event { word.old.event ≡ EventSq1 }
-    requires room { length word.old.turns + length steps.now ≤ 160 }
-    ensures word { word.new ≡ record { event = EventSq1; turns = word.old.turns ++ flat_map step_word steps.now } }
-    ensures few { length word.new.turns ≤ length word.old.turns + length steps.now }
-{
-    for place in 0..steps.len() {
-        push_step(word, steps[place]);
-    }
-}
-
-/// Adds a step.
-fn push_step(word: &mut Scramble, step: Step)
-    requires event { word.old.event ≡ EventSq1 }
-    requires room { length word.old.turns < 160 }
-    ensures word { word.new ≡ record { event = EventSq1; turns = word.old.turns ++ step_word step } }
-    ensures few { length word.new.turns ≤ length word.old.turns + 1 }
-{
-    match step {
-        Step::Turned(top, bottom) => push_layers(word, top, bottom),
-        Step::Twisted => push_turn(word, Turn::Twist),
-    }
-}
-
-/// Adds a turn of the layers by so many twelfths, of which whole turns are dropped: where none is left, there is no
-/// turn.
-#[tactic(auto, using(crate::proofs::Cited::push_layers))]
-fn push_layers(word: &mut Scramble, top: i16, bottom: i16)
-    requires event { word.old.event ≡ EventSq1 }
-    requires room { length word.old.turns < 160 }
-    ensures word { word.new ≡ record { event = EventSq1; turns = word.old.turns ++ turn_word top bottom } }
-    ensures few { length word.new.turns ≤ length word.old.turns + 1 }
-{
-    if let Some(turn) = layers_turned(top, bottom) {
-        push_turn(word, turn);
     }
 }

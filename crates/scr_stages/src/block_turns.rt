@@ -19,26 +19,8 @@ fn block_turn<const N: usize, const M: usize>(turn: &PlaceTurn<N>, block: &[u8; 
     PlaceTurn { places, added }
 }
 
-/// Fills `out` with what the turns with these numbers do to the pieces at the places of a block.
-#[tactic(auto, using(crate::proofs::Cited::fill_block_turns))]
-fn fill_block_turns<const N: usize, const M: usize>(
-    turns: &[PlaceTurn<N>],
-    block: &[u8; M],
-    numbers: &[u8],
-    out: &mut [PlaceTurn<M>],
-)
-    requires same_length { length out.old ≡ length numbers.now }
-    requires few { M ≤ 255 }
-    requires block { All (λ place. place < N) block.now }
-    requires numbers { All (λ t. t < length turns.now) numbers.now }
-    ensures { map made_by out.new ≡ block_turns block.now (map made_by turns.now) numbers.now }
-{
-    for at in 0..out.len() {
-        out[at] = block_turn(&turns[usize::from(numbers[at])], block);
-    }
-}
-
 /// What the turns with these numbers do to the pieces at the places of a block.
+#[tactic(auto, using(crate::proofs::Cited::block_turns))]
 pub(crate) fn block_turns<const N: usize, const M: usize, const K: usize>(
     turns: &[PlaceTurn<N>],
     block: &[u8; M],
@@ -54,6 +36,8 @@ pub(crate) fn block_turns<const N: usize, const M: usize, const K: usize>(
         added: [0; M],
     };
     let mut out = [none; K];
-    fill_block_turns(turns, block, &numbers[..], &mut out[..]);
+    for at in 0..K {
+        out[at] = block_turn(&turns[usize::from(numbers[at])], block);
+    }
     out
 }

@@ -3,13 +3,11 @@ ghost use Rattle.std.specs.Prelude.{◌≡◌, ◌<◌};
 ghost use Rattle.scr_combinatorics.specs.Lists.{pick};
 ghost use Rattle.scr_combinatorics.specs.Permutations.{IsPermutation};
 ghost use Rattle.scr_combinatorics.specs.PlaceSets.{IsPlaceSet};
-ghost use Rattle.scr_stages.specs.Tetrads.{axes_of, corner_index, corners_at, places_of_tetrad};
+ghost use Rattle.scr_stages.specs.Tetrads.{axes_of, corner_index, places_of_tetrad};
 
 use crate::corner_lists::CornerNumbers;
 use crate::places::arrange;
-use crate::tetrads::{
-    FIRST_TETRAD, SECOND_TETRAD, axes_of, corners_related, joined, relation_number,
-};
+use crate::tetrads::{FIRST_TETRAD, RELATED, SECOND_TETRAD, axes_of, joined, relation_number};
 use scr_coord::places_of;
 use scr_orbit::pick_into;
 use scr_rank::Choose;
@@ -51,27 +49,6 @@ fn axes_at(corners: &[u8; 8], places: &[u8; 4]) -> [u8; 3]
     axes_of(&picked)
 }
 
-/// The list of corners that is kept for an index, below 420.
-#[tactic(auto, using(crate::proofs::Cited::corners_at), unfolding(crate::specs::Tetrads::corners_at))]
-fn corners_at(index: u32) -> [u8; 8]
-    requires { index < 420 }
-    ensures list { result ≡ corners_at index }
-    ensures valid { IsPermutation 8 result }
-{
-    let set = index / 6;
-    let places = Choose::<8, 4>::unrank(u128::from(set));
-    // the other places are the set with the same number from the end
-    let others = Choose::<8, 4>::unrank(u128::from(69 - set));
-    let order = joined(&places, &others);
-    let mut corners = [0; 8];
-    arrange(
-        &order[..],
-        &corners_related(index % 6)[..],
-        &mut corners[..],
-    );
-    corners
-}
-
 /// The lists of corners by their index.
 pub(crate) struct CornerIndexes;
 
@@ -84,8 +61,20 @@ impl CornerNumbers for CornerIndexes {
         420
     }
 
+    #[tactic(auto, using(crate::proofs::Cited::corners_at), unfolding(crate::specs::Tetrads::corners_at))]
     fn list_at(position: u32) -> [u8; 8] {
-        corners_at(position)
+        let set = position / 6;
+        let places = Choose::<8, 4>::unrank(u128::from(set));
+        // the other places are the set with the same number from the end
+        let others = Choose::<8, 4>::unrank(u128::from(69 - set));
+        let related = joined(&FIRST_TETRAD, &RELATED[(position % 6) as usize]);
+        let mut corners = [0; 8];
+        arrange(
+            &joined(&places, &others)[..],
+            &related[..],
+            &mut corners[..],
+        );
+        corners
     }
 
     fn number_of(corners: &[u8; 8]) -> u32 {

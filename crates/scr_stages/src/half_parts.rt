@@ -5,7 +5,8 @@ ghost use Rattle.scr_cube.specs.Cube333.{CubeState};
 ghost use Rattle.scr_stages.specs.Numbers.{AreParts, ArePartNumbers, IsHalfCube, half_cubes};
 ghost use Rattle.scr_stages.specs.Tetrads.{in_block};
 
-use crate::half_corners::half_corners_number;
+use crate::corner_lists::CornerNumbers;
+use crate::half_corners::HalfCorners;
 use crate::places::pieces_in_block;
 use scr_cube::Cube;
 use scr_rank::permutations::rank_permutation;
@@ -47,7 +48,7 @@ impl HalfParts {
             middle: block_number(&MIDDLE_EDGES, &edges),
             second: block_number(&SECOND_EDGES, &edges),
             first: block_number(&FIRST_EDGES, &edges),
-            corners: half_corners_number(&cube.corners()),
+            corners: HalfCorners::number_of(&cube.corners()),
         }
     }
 

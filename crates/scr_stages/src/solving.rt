@@ -14,7 +14,7 @@ use crate::stage_turns::{ALL_TURNS, DOMINO_TURNS, HALF_TURNS, SLICE_TURNS};
 use crate::tables::StageTables;
 use crate::words::{flips_word, halves_word, slice_word, tetrads_word};
 use scr_cube::{Cube, PowerTurned};
-use scr_notation::{Event, Scramble, inverse, push_numbered, tidy};
+use scr_notation::{Event, NumberedWord, Scramble};
 
 /// The solution of a cube by the four stages, of at most 52 turns: the first word of each stage's turns to its goal,
 /// one after another.
@@ -27,7 +27,24 @@ pub fn solve_stages(tables: &StageTables, cube: &Cube) -> Scramble
     ensures played { play (after_letter cube_powers) cube.now result.turns ≡ Some solved_cube }
     ensures valid { IsCube cube.now }
 {
-    let mut solution = Scramble::new(Event::C333);
+    stage_words(tables, cube).scramble()
+}
+
+/// The scramble of a cube by stages, of at most 52 turns: its solution, in which neighbouring turns of one face are
+/// merged, taken back.
+pub fn scramble_by_stages(tables: &StageTables, cube: &Cube) -> Scramble
+    ensures { IsTheScramble C333 IsStageScramble (at_most 52) (play (after_letter cube_powers) solved_cube) cube.now result }
+{
+    stage_words(tables, cube).tidied().taken_back()
+}
+
+/// The words of the four stages, one after another.
+fn stage_words(tables: &StageTables, cube: &Cube) -> NumberedWord
+    ensures event { result.event ≡ C333 }
+    ensures solution { IsSolution (after_letter cube_powers) stages cube.now result.turns }
+    ensures valid { IsCube cube.now }
+{
+    let mut solution = NumberedWord::new(Event::C333);
     let word = flips_word(tables, cube);
     let unflipped = follow(cube, &ALL_TURNS[..], &word[..], &mut solution);
     let word = slice_word(tables, &unflipped);
@@ -39,16 +56,9 @@ pub fn solve_stages(tables: &StageTables, cube: &Cube) -> Scramble
     solution
 }
 
-/// The scramble of a cube by stages, of at most 52 turns: its solution, in which neighbouring turns of one face are
-/// merged, taken back.
-pub fn scramble_by_stages(tables: &StageTables, cube: &Cube) -> Scramble
-    ensures { IsTheScramble C333 IsStageScramble (at_most 52) (play (after_letter cube_powers) solved_cube) cube.now result }
-{
-    inverse(&tidy(&solve_stages(tables, cube)))
-}
-
 /// Plays a word of places of a list of turns, and adds its letters to a solution, which has room for them.
-fn follow(cube: &Cube, turns: &[u8], word: &[u8], solution: &mut Scramble) -> Cube
+#[tactic(auto, using(crate::proofs::Cited::follow))]
+fn follow(cube: &Cube, turns: &[u8], word: &[u8], solution: &mut NumberedWord) -> Cube
     requires turns { All (λ t. t < 18) turns.now }
     requires word { All (λ place. place < length turns.now) word.now }
     requires event { solution.old.event ≡ C333 }
@@ -61,7 +71,7 @@ fn follow(cube: &Cube, turns: &[u8], word: &[u8], solution: &mut Scramble) -> Cu
     for at in 0..word.len() {
         let number = turns[usize::from(word[at])];
         state = state.turned(usize::from(number));
-        push_numbered(solution, number);
+        solution.push(number);
     }
     state
 }

@@ -1,6 +1,6 @@
 //! The corners of a 3x3x3 by tetrads. Each two corners of a tetrad are at one face together, which is their axis.
 ghost use Rattle.std.specs.Prelude.{◌≡◌, ◌<◌, ◌++◌, All, slice_index};
-ghost use Rattle.scr_stages.specs.Tetrads.{second_tetrad, axes_of, relation_number, corners_related, second_with};
+ghost use Rattle.scr_stages.specs.Tetrads.{second_tetrad, axes_of, relation_number, second_with};
 
 use crate::places::place_of;
 use scr_rank::permutations::rank_permutation;
@@ -27,7 +27,7 @@ static AXES: [[u8; 8]; 8] = [
 static ACROSS: [[u8; 3]; 4] = [[3, 6, 4], [1, 4, 6], [6, 3, 1], [4, 1, 3]];
 
 /// For each relation, the second tetrad beside the first one in order.
-static RELATED: [[u8; 4]; 6] = [
+pub(crate) static RELATED: [[u8; 4]; 6] = [
     [1, 3, 4, 6],
     [1, 3, 6, 4],
     [1, 4, 3, 6],
@@ -79,15 +79,6 @@ pub(crate) fn relation_number(axes: &[u8; 3], others: &[u8; 3]) -> u32
         place_of(axes[2], others) as u8,
     ];
     rank_permutation(&places) as u32
-}
-
-/// Both tetrads, one after the other, the first in order and the second beside it with a relation, below 6.
-#[tactic(auto, using(crate::proofs::Cited::corners_related))]
-pub(crate) fn corners_related(relation: u32) -> [u8; 8]
-    requires { relation < 6 }
-    ensures { result ≡ corners_related relation }
-{
-    joined(&FIRST_TETRAD, &RELATED[relation as usize])
 }
 
 /// Four numbers and four more.

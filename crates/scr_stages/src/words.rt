@@ -24,6 +24,7 @@ pub(crate) fn flips_word(tables: &StageTables, cube: &Cube) -> ArrayVec<u8, GREA
 }
 
 /// The word of the second stage, from a cube without flips.
+#[tactic(auto, using(crate::proofs::Cited::places_of_edges))]
 pub(crate) fn slice_word(tables: &StageTables, cube: &Cube) -> ArrayVec<u8, GREATEST_BOUND>
     requires { IsUnflippedCube cube.now }
     ensures { IsStageWord (after_letter cube_powers) slice_stage cube.now result.items }
@@ -36,6 +37,7 @@ pub(crate) fn slice_word(tables: &StageTables, cube: &Cube) -> ArrayVec<u8, GREA
 }
 
 /// The word of the third stage, from a domino.
+#[tactic(auto, using(crate::proofs::Cited::places_of_edges))]
 pub(crate) fn tetrads_word(tables: &StageTables, cube: &Cube) -> ArrayVec<u8, GREATEST_BOUND>
     requires { IsDominoCube cube.now }
     ensures { IsStageWord (after_letter cube_powers) tetrads_stage cube.now result.items }

@@ -19,11 +19,7 @@ IsNextEntry-least c level entries p least next near is = record {
   reached = λ unknown. (least, near, is ∙ ap (λ e. next_entry level e least) unknown);
 }
 
--- a block that is among so many
-pub block_below : (n block : ℕ) → block < block_count n → 1024 * block < n
-block_below n block lt = omega arith
-
--- and the block of a position
+-- the block of a position
 pub block_of : (n p : ℕ) → p < n → p / 1024 < block_count n
 block_of n p lt = omega arith
 

@@ -12,7 +12,7 @@ use Rattle.scr_combinatorics.proofs.FirstWordLaws.{LeadsTo-empty, IsGoal-empty, 
 use Rattle.scr_table.specs.Distances.{Measures, IsFirstGap}
 use Rattle.scr_table.specs.declared.name.TableName.{TableName}
 use Rattle.scr_table.specs.Filled.{IsKnown, AreKnown, AreMarked, Neighbours, IsLeastNeighbour, IsAgreed, IsNextEntry, next_entry}
-use Rattle.scr_table.proofs.StepLaws.{moved-turn, moved-below}
+use Rattle.scr_table.proofs.StepLaws.{moved-below}
 
 module _ (c : Coordinate) where
   -- what is entered at a position by whether it is a goal is known of all words of no turn
@@ -198,23 +198,6 @@ IsKnown-next c below level small entries known p next lt is = by_entry (cases_eq
         let here : next ≡ get_or entries p 0 = is.kept there in
         rw here (IsKnown-found c level (level + 1) p (get_or entries p 0) there (known.each p lt))
 
--- what all words of a level tell is known of all longer ones where each position is known
-pub AreKnown-all : (c : Coordinate) (level more : ℕ) (entries : List ℕ)
-    → ((p : ℕ) → p < c.count → get_or entries p 0 ≢ 255) → AreKnown c level entries → AreKnown c more entries
-AreKnown-all c level more entries there h = record {
-  positions = h.positions;
-  each = λ p lt. IsKnown-found c level more p (get_or entries p 0) (there p lt) (h.each p lt);
-}
-
--- and of shorter ones anyway
-pub AreKnown-fewer : (c : Coordinate) (level fewer : ℕ) (entries : List ℕ) → fewer ≤ level → AreKnown c level entries
-    → AreKnown c fewer entries
-AreKnown-fewer c level fewer entries less h = record {
-  positions = h.positions;
-  each = λ p lt.
-      record { found = (h.each p lt).found; left = λ unknown w l. omega (arith, less, (h.each p lt).left unknown w l) };
-}
-
 -- The least entry among those of some neighbours: those that the turns below one lead to.
 pub record IsLeast (c : Coordinate) (entries : List ℕ) (p done least : ℕ) : Type 0 where
   pub at_most : (t q : ℕ) → t < done → moved c p t ≡ Some q → least ≤ get_or entries q 0
@@ -282,14 +265,6 @@ IsLeast-seen c entries p turn least new lt is h = by_target (c.after p turn) ref
         }
     by_target (Some q) e =
         IsLeast-next c entries p turn least h q new (moves ∙ e) (is ∙ ap (λ o. min least (value_at entries o)) e)
-
--- all turns
-pub IsLeastNeighbour-all : (c : Coordinate) (entries : List ℕ) (p done least : ℕ) → c.turns ≤ done
-    → IsLeast c entries p done least → IsLeastNeighbour c entries p least
-IsLeastNeighbour-all c entries p done least all h = record {
-  at_most = λ t q e. h.at_most t q (omega (arith, all, (moved-turn c p t q e).0)) e;
-  some = h.some;
-}
 
 -- The first entry above the bound is that of the first gap.
 pub IsFirstGap-above : (c : Coordinate) (bound index : ℕ) (entries : List ℕ) → bound < 255 → AreKnown c bound entries

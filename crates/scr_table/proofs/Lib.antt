@@ -17,3 +17,4 @@ pub mod WordLists
 pub mod ListedWords
 pub mod GoalWords
 pub mod WordOrder
+pub mod Cited

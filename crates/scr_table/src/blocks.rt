@@ -4,8 +4,6 @@ ghost use Rattle.std.specs.Prelude.{◌≡◌, ◌≢◌, ℕ, ◌+◌, ◌*◌,
 ghost use Rattle.std.specs.Bool.{OnTrue, OnFalse};
 ghost use Rattle.scr_table.specs.Filled.{entered};
 
-use crate::fill::UNKNOWN;
-
 /// How many positions a block has, but for the last.
 pub(crate) const BLOCK: usize = 1024;
 
@@ -26,14 +24,6 @@ pub(crate) fn contains(entries: &[u8], start: usize, end: usize, entry: u8) -> b
         }
     }
     found
-}
-
-/// A block with nothing known.
-pub(crate) fn unknown_block() -> [u8; BLOCK]
-    ensures long { length result ≡ 1024 }
-    ensures unknown { (k : ℕ) → k < 1024 → slice_index result k ≡ UNKNOWN }
-{
-    [UNKNOWN; BLOCK]
 }
 
 /// Enters the blocks that there are, fewer than 2^32.

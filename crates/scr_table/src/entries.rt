@@ -37,6 +37,7 @@ impl Model for Entries {
 
 impl Entries {
     /// The entries with these numbers, fewer than 2^32.
+    #[tactic(auto, using(crate::proofs::Cited::of))]
     pub fn of(alloc: Global, numbers: &[u8]) -> Result<Entries, AllocError>
         requires { length numbers.now < 2 ^ 32 }
         ensures { IfOk result (λ entries. entries ≡ numbers.now) }
@@ -102,6 +103,7 @@ fn half_byte_at(blocks: &[[u8; 512]], position: usize) -> u8
 }
 
 /// The blocks of some entries.
+#[tactic(auto, using(crate::proofs::Cited::blocks_of))]
 fn blocks_of(alloc: Global, numbers: &[u8]) -> Result<Vec<[u8; 512]>, AllocError>
     requires { length numbers.now < 2 ^ 32 }
     ensures { IfOk result (λ blocks. AreBlocksOf numbers.now blocks.items) }
@@ -115,6 +117,7 @@ fn blocks_of(alloc: Global, numbers: &[u8]) -> Result<Vec<[u8; 512]>, AllocError
 }
 
 /// The block of the positions from `start` on.
+#[tactic(auto, using(crate::proofs::Cited::block_of))]
 fn block_of(numbers: &[u8], start: usize) -> [u8; 512]
     requires { start + 1024 < 2 ^ 63 }
     ensures { IsBlockFrom numbers.now start result }
@@ -142,6 +145,7 @@ fn half_byte_of(numbers: &[u8], position: usize) -> u8
 }
 
 /// The deep positions among some entries.
+#[tactic(auto, using(crate::proofs::Cited::deep_of))]
 fn deep_of(alloc: Global, numbers: &[u8]) -> Result<Vec<(u32, u8)>, AllocError>
     requires { length numbers.now < 2 ^ 32 }
     ensures { IfOk result (λ deep. deep.items ≡ deep_of numbers.now) }

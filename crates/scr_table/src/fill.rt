@@ -5,7 +5,7 @@
 //! taken back, since then they hardly would.
 
 ghost use Rattle.std.specs.Prelude.{◌≡◌, ◌<◌, ◌≤◌, IfOk, length};
-ghost use Rattle.scr_table.specs.Filled.{AreKnown, AreMarked, block_count};
+ghost use Rattle.scr_table.specs.Filled.{AreKnown, AreMarked};
 
 use crate::blocks::{BLOCK, Made, contains};
 use crate::levels::next_level;
@@ -32,28 +32,11 @@ pub(crate) fn filled<R: Threads + Sync, C: Coord + Sync>(
     requires workers { (1 ≤ workers) × (workers ≤ 64) }
     ensures { IfOk result (λ entries. AreKnown (C.coordinate coord.now) bound entries.items) }
 {
-    let mut entries = vec![in alloc; UNKNOWN; coord.count() as usize]?;
+    let mut room = vec![in alloc; UNKNOWN; coord.count() as usize]?;
+    let entries = &mut room[..];
+    // Room for what workers make of each block.
     let mut blocks: Vec<Made> = vec![in alloc; None; entries.len().div_ceil(BLOCK)]?;
-    fill(rt, coord, &mut entries[..], &mut blocks[..], bound, workers);
-    Ok(entries)
-}
-
-/// Fills the entries, with room for what workers make of each block.
-fn fill<R: Threads + Sync, C: Coord + Sync>(
-    rt: &R,
-    coord: &C,
-    entries: &mut [u8],
-    blocks: &mut [Made],
-    bound: u8,
-    workers: u32,
-)
-    requires entries { length entries.old ≡ (C.coordinate coord.now).count }
-    requires blocks { length blocks.old ≡ block_count (length entries.old) }
-    requires few_turns { (C.coordinate coord.now).turns ≤ 256 }
-    requires bound { bound ≤ GREATEST_BOUND }
-    requires workers { (1 ≤ workers) × (workers ≤ 64) }
-    ensures { AreKnown (C.coordinate coord.now) bound entries.new }
-{
+    let blocks = &mut blocks[..];
     let pushed = early_levels(coord, entries, bound);
     let mut first = pushed + 1;
     if !next_level(rt, coord, entries, blocks, pushed, true, workers) {
@@ -62,10 +45,11 @@ fn fill<R: Threads + Sync, C: Coord + Sync>(
     }
     for level in first..bound {
         if !contains(entries, 0, entries.len(), UNKNOWN) {
-            return;
+            return Ok(room);
         }
         next_level(rt, coord, entries, blocks, level, false, workers);
     }
+    Ok(room)
 }
 
 /// Enters the first levels, as many as are cheaper to push, and answers the last of them, at most `bound`: that of the
@@ -78,10 +62,9 @@ fn early_levels<C: Coord>(coord: &C, entries: &mut [u8], bound: u8) -> u8
     ensures level { result ≤ bound }
 {
     mark_goals(coord, entries);
-    if are_taken_back(coord) {
-        push_levels(coord, entries, bound)
-    } else {
-        0
+    match coord.next_goal(0) {
+        Some(goal) if leads_back(coord, goal) => push_levels(coord, entries, bound),
+        _ => 0,
     }
 }
 
@@ -99,16 +82,8 @@ fn mark_goals<C: Coord>(coord: &C, entries: &mut [u8])
     }
 }
 
-/// Whether each turn from the first goal is taken back by a turn. It tells whether it is worth while to push, and
+/// Whether each turn from a position is taken back. Of the first goal it tells whether it is worth while to push, and
 /// nothing rests on it.
-fn are_taken_back<C: Coord>(coord: &C) -> bool {
-    match coord.next_goal(0) {
-        Some(goal) => leads_back(coord, goal),
-        None => false,
-    }
-}
-
-/// Whether each turn from a position is taken back.
 fn leads_back<C: Coord>(coord: &C, position: u32) -> bool
     requires { position < (C.coordinate coord.now).count }
 {

@@ -5,7 +5,7 @@ ghost use Rattle.std.specs.Bool.{OnTrue, OnFalse};
 ghost use Rattle.scr_table.specs.Filled.{AreKnown, AreMarked, Agrees, IsNextEntry, IsThere, block_count, next_entry};
 ghost use Rattle.scr_table.specs.declared.table.TheConstants.{GREATEST_BOUND};
 
-use crate::blocks::{BLOCK, Made, contains, enter_blocks, unknown_block};
+use crate::blocks::{BLOCK, Made, contains, enter_blocks};
 use crate::fill::UNKNOWN;
 use crate::neighbours::{least_neighbour, least_neighbours};
 use scr_positions::Coord;
@@ -66,7 +66,7 @@ fn next_block<C: Coord>(
         → IsNextEntry (C.coordinate coord.now) level entries.now (start + k) (slice_index result k) }
 {
     let _count = coord.count();
-    let mut next = unknown_block();
+    let mut next = [UNKNOWN; BLOCK];
     for position in start..end {
         let entry = entries[position];
         next[position - start] = if entry == UNKNOWN {
@@ -97,6 +97,7 @@ fn next_entry(entry: u8, least: u8, level: u8) -> u8
 
 /// The entries of the positions from `start` up to `end` on the next level, where each agrees with the least that a
 /// turn leads to from its position.
+#[tactic(auto, using(crate::proofs::Cited::checked_block))]
 fn checked_block(
     entries: &[u8],
     start: usize,
@@ -112,7 +113,7 @@ fn checked_block(
     ensures next { IfSome result (λ next. (k : ℕ) → start + k < end
         → slice_index next k ≡ next_entry level (slice_index entries.now (start + k)) (slice_index least.now k)) }
 {
-    let mut next = unknown_block();
+    let mut next = [UNKNOWN; BLOCK];
     for position in start..end {
         let k = position - start;
         if !agrees(entries[position], least[k], level) {
@@ -176,16 +177,9 @@ fn are_all_there(blocks: &[Made]) -> bool
     ensures { IsTrue result → (k : ℕ) → k < length blocks.now → IsThere (slice_index_or blocks.now k None) }
 {
     for block in 0..blocks.len() {
-        if !is_there(&blocks[block]) {
+        let Some(Some(_)) = &blocks[block] else {
             return false;
-        }
+        };
     }
     true
-}
-
-/// Whether a block is there.
-fn is_there(block: &Made) -> bool
-    ensures { IsTrue result → IsThere block.now }
-{
-    matches!(block, Some(Some(_)))
 }

@@ -1,8 +1,8 @@
 //! Minima by looking at all short words.
 
-ghost use Rattle.std.specs.Prelude.{◌≡◌, ℕ, ◌<◌, ◌≤◌, ◌↔◌, ◌∷◌, List, IsTrue};
+ghost use Rattle.std.specs.Prelude.{◌≡◌, ◌<◌, ◌≤◌, ◌↔◌, IsTrue};
 ghost use Rattle.std.specs.Bool.{OnTrue, OnFalse};
-ghost use Rattle.scr_table.specs.Moves.{MoveSet, NeedsTurns, NeverHelps, HasWordWithin, BeginsIdly, AreLeftOut};
+ghost use Rattle.scr_table.specs.Moves.{MoveSet, NeedsTurns, NeverHelps, HasWordWithin, AreLeftOut};
 
 /// A puzzle whose states few turns are tried on. A turn may be refused.
 ///
@@ -48,6 +48,7 @@ pub fn no_shorter<M: Moves>(moves: &M, state: &M::State, least: u32) -> bool
 
 /// Whether a word of at most `most` turns brings a state to solved. `before` is the turn that led to the state, if
 /// there was one: words that go on idly from it are left out.
+#[tactic(auto, using(crate::proofs::Cited::is_within))]
 fn is_within<M: Moves>(moves: &M, state: &M::State, before: Option<u32>, most: u32) -> bool
     ensures found { OnTrue result (HasWordWithin (M.moves moves.now) state.now most) }
     ensures none { OnFalse result (AreLeftOut (M.moves moves.now) state.now before most) }
@@ -59,8 +60,10 @@ fn is_within<M: Moves>(moves: &M, state: &M::State, before: Option<u32>, most: u
         return false;
     }
     for turn in 0..moves.count() {
-        if is_idle_after(moves, before, turn) {
-            continue;
+        if let Some(last) = &before {
+            if moves.is_idle(*last, turn) {
+                continue;
+            }
         }
         if let Some(next) = moves.after(state, turn) {
             if is_within(moves, &next, Some(turn), most - 1) {
@@ -69,14 +72,4 @@ fn is_within<M: Moves>(moves: &M, state: &M::State, before: Option<u32>, most: u
         }
     }
     false
-}
-
-/// Whether a turn never helps right after the one before it, if there was one.
-fn is_idle_after<M: Moves>(moves: &M, before: Option<u32>, turn: u32) -> bool
-    ensures { IsTrue result → (w : List ℕ) → BeginsIdly (M.moves moves.now) before (turn ∷ w) }
-{
-    match before {
-        Some(before) => moves.is_idle(before, turn),
-        None => false,
-    }
 }

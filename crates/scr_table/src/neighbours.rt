@@ -3,12 +3,13 @@
 ghost use Rattle.std.specs.Prelude.{◌≡◌, ℕ, ◌+◌, ◌<◌, ◌≤◌, length, min, slice_index};
 ghost use Rattle.scr_table.specs.Filled.{IsLeastNeighbour};
 
-use crate::blocks::{BLOCK, unknown_block};
+use crate::blocks::BLOCK;
 use crate::fill::UNKNOWN;
 use scr_positions::{Coord, NOWHERE};
 
 /// The least entry that a turn leads to from a position, and `UNKNOWN` where each turn is barred.
 #[inline]
+#[tactic(auto, using(crate::proofs::Cited::least_neighbour))]
 pub(crate) fn least_neighbour<C: Coord>(coord: &C, entries: &[u8], position: u32) -> u8
     requires entries { length entries.now ≡ (C.coordinate coord.now).count }
     requires position { position < (C.coordinate coord.now).count }
@@ -25,6 +26,7 @@ pub(crate) fn least_neighbour<C: Coord>(coord: &C, entries: &[u8], position: u32
 
 /// The least entries that turns lead to from `count` positions one after another, `start` first, at most as many as a
 /// block has.
+#[tactic(auto, using(crate::proofs::Cited::least_neighbours))]
 pub(crate) fn least_neighbours<C: Coord>(
     coord: &C,
     entries: &[u8],
@@ -38,7 +40,7 @@ pub(crate) fn least_neighbours<C: Coord>(
         → IsLeastNeighbour (C.coordinate coord.now) entries.now (start + k) (slice_index result k) }
 {
     let mut seen = [NOWHERE; BLOCK];
-    let mut least = unknown_block();
+    let mut least = [UNKNOWN; BLOCK];
     for turn in 0..coord.turns() {
         let part = &mut seen[..count];
         coord.look(entries, start, turn, part);

@@ -133,12 +133,17 @@ impl DistanceTable {
     }
 
     /// How many positions there are at each distance.
+    #[tactic(auto, using(crate::proofs::Cited::counts))]
     pub fn counts(&self) -> [u32; GREATEST_BOUND + 1]
         ensures counted { (d : ℕ) → d < GREATEST_BOUND + 1
             → slice_index result d ≡ count_by (λ distance. distance == d) self.now.distances }
         ensures all { All (λ distance. distance < GREATEST_BOUND + 1) self.now.distances }
     {
-        counts_of(&self.entries)
+        let mut counts = [0; GREATEST_BOUND + 1];
+        for position in 0..self.entries.len() {
+            counts[usize::from(self.entries.get(position))] += 1;
+        }
+        counts
     }
 
     /// The first word from a position, below `positions`, to a goal. The table measures the coordinate, which has at
@@ -205,16 +210,4 @@ fn first_above(entries: &[u8], bound: u8) -> Option<u32>
 struct Descent {
     turn: u8,
     next: u32,
-}
-
-/// How many entries are equal to each number up to the greatest bound. No entry is greater.
-fn counts_of(entries: &Entries) -> [u32; GREATEST_BOUND + 1]
-    requires { (p : ℕ) → slice_index entries.now p ≤ GREATEST_BOUND }
-    ensures { (d : ℕ) → d < GREATEST_BOUND + 1 → slice_index result d ≡ count_by (λ entry. entry == d) entries.now }
-{
-    let mut counts = [0; GREATEST_BOUND + 1];
-    for position in 0..entries.len() {
-        counts[usize::from(entries.get(position))] += 1;
-    }
-    counts
 }

@@ -1,6 +1,6 @@
 //! The first words to goals.
 
-ghost use Rattle.std.specs.Prelude.{◌≡◌, ◌+◌, ◌++◌, [], ◌∷◌, ◌<◌, ◌≤◌, ◌↔◌, IfNone, IfSome, IsTrue, ℕ, length, slice_index, slice_index_or, take};
+ghost use Rattle.std.specs.Prelude.{◌≡◌, ◌+◌, ◌++◌, [], ◌∷◌, ◌<◌, ◌≤◌, IfNone, IfSome, ℕ, length, slice_index, slice_index_or, take};
 ghost use Rattle.scr_positions.specs.Coordinates.{moved};
 ghost use Rattle.scr_table.specs.Distances.{Measures};
 ghost use Rattle.scr_table.specs.Words.{goal_words_behind, words_to_goal};
@@ -27,28 +27,12 @@ impl Model for FirstWords {
 }
 
 impl FirstWords {
-    /// No words.
-    fn new() -> FirstWords
-        ensures { result ≡ [] }
-    {
-        FirstWords {
-            words: ArrayVec::new(),
-        }
-    }
-
     /// How many words there are.
     pub fn len(&self) -> usize
         ensures count { result ≡ length self.now }
         ensures at_most { result ≤ 1000 }
     {
         self.words.len()
-    }
-
-    /// Whether there is none.
-    pub fn is_empty(&self) -> bool
-        ensures { IsTrue result ↔ (self.now ≡ []) }
-    {
-        self.words.is_empty()
     }
 
     /// The word at a place.
@@ -85,7 +69,9 @@ impl<L: Line> LineTable<L> {
         ensures { result ≡ take wanted (words_to_goal L.line.coordinate position most) }
     {
         let wanted = wanted as usize;
-        let mut found = FirstWords::new();
+        let mut found = FirstWords {
+            words: ArrayVec::new(),
+        };
         let mut word = ArrayVec::new();
         let near = self.distances.distance(position);
         for left in near..most + 1 {

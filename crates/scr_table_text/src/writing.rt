@@ -1,7 +1,6 @@
 //! The text of a table, written.
 
-ghost use Rattle.std.specs.Prelude.{◌≡◌, ◌+◌, ◌≤◌, ◌<◌, ◌++◌, ℕ, List, length, slice_index, codes};
-ghost use Rattle.std.specs.Fmt.{decimal};
+ghost use Rattle.std.specs.Prelude.{◌≡◌, ◌+◌, ◌≤◌, ◌<◌, ℕ, List, length, slice_index};
 ghost use Rattle.arrayvec.specs.ArrayString.{array_string_len};
 ghost use Rattle.scr_outside.specs.Change.{change_of, Writes};
 ghost use Rattle.scr_text.specs.Lines.{text_of_lines};
@@ -12,7 +11,7 @@ ghost use Rattle.scr_table_text.specs.Counted.{AreEntryCounts, counted_text, tab
 
 use arrayvec::ArrayString;
 use scr_outside::{Failed, Sink, write_line};
-use scr_table::{DistanceTable, GREATEST_BOUND, TableName};
+use scr_table::{DistanceTable, GREATEST_BOUND};
 use scr_text::decimal;
 
 /// Writes the texts of an event's tables, one after another, or the line of an event that has none. They are those of
@@ -50,16 +49,9 @@ pub fn write_table<O: Sink>(out: &mut O, table: &DistanceTable) -> Result<(), Fa
         × Writes (change_of O.held O.faults out.old out.new) (counted_text table.now counts) result }
 {
     let counts = table.counts();
-    write_counted(out, table, &counts[..line_count(&counts)])
-}
-
-/// Writes the head of a table, and the lines of these counts.
-fn write_counted<O: Sink>(out: &mut O, table: &DistanceTable, counts: &[u32]) -> Result<(), Failed>
-    requires { length counts.now ≤ GREATEST_BOUND + 1 }
-    ensures { Writes (change_of O.held O.faults out.old out.new) (counted_text table.now counts.now) result }
-{
+    let lines = line_count(&counts);
     write_line(out, "", head(table).as_str())?;
-    write_counts(out, counts)
+    write_counts(out, &counts[..lines])
 }
 
 /// The head of a table.
@@ -83,24 +75,12 @@ fn write_counts<O: Sink>(out: &mut O, counts: &[u32]) -> Result<(), Failed>
     ensures { Writes (change_of O.held O.faults out.old out.new) (text_of_lines (count_lines 0 counts.now)) result }
 {
     for (distance, count) in counts.iter().enumerate() {
-        write_line(
-            out,
-            labelled(distance as u32).as_str(),
-            decimal(*count).as_str(),
-        )?;
+        let mut label: ArrayString<11> = ArrayString::new();
+        label.push_str(decimal(distance as u32).as_str());
+        label.push_str(" ");
+        write_line(out, label.as_str(), decimal(*count).as_str())?;
     }
     Ok(())
-}
-
-/// A distance, and the space after it.
-fn labelled(distance: u32) -> ArrayString<11>
-    ensures bytes { result.bytes ≡ decimal distance ++ codes " " }
-    ensures short { array_string_len result ≤ 11 }
-{
-    let mut label = ArrayString::new();
-    label.push_str(decimal(distance).as_str());
-    label.push_str(" ");
-    label
 }
 
 /// How many counts there are up to the last that isn't 0.

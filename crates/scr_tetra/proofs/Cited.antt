@@ -11,8 +11,6 @@ pub ruleset pyram_state = (same_pyram)
 
 pub ruleset tetraminx_at = (same_tetraminx, same_orbit)
 
-pub ruleset skewb_state = (same_skewb, skewb_numbering)
+pub ruleset skewb_state = (same_skewb, skewb_numbering, class_below, skewb_of_digits-made)
 
 pub ruleset skewb_number = (AreDigits-skewb)
-
-pub ruleset orbits_at = (class_below, skewb_of_digits-made)

@@ -1,5 +1,5 @@
 -- Words of a Pyraminx by parts: what they do to the body, and how many tips they solve.
-use Rattle.std.proofs.Common.{◌≡◌, ℕ, zero, suc, ◌+◌, ◌-◌, ◌/◌, ◌%◌, ◌<◌, ◌≤◌, inl, inr, true, false, cond, List, [], ◌∷◌, Some, length, refl, sym, ap, ◌∙◌, subst, arith, eqb, ne_eqb}
+use Rattle.std.proofs.Common.{◌≡◌, ℕ, zero, suc, ◌+◌, ◌-◌, ◌*◌, ◌/◌, ◌%◌, ◌<◌, ◌≤◌, inl, inr, true, false, cond, List, [], ◌∷◌, Some, length, refl, sym, ap, ◌∙◌, subst, arith, eqb, ne_eqb}
 use Rattle.std.specs.Prelude.{All, slice_get}
 use Rattle.std.specs.Option.{option_map}
 use Rattle.std.proofs.Math.Nat.{mod-eq_of_lt}
@@ -15,7 +15,7 @@ use Rattle.scr_orbit.proofs.InPlaceLaws.{added_digits-still}
 use Rattle.scr_notation.specs.declared.turn.Turn.{Turn}
 use Rattle.scr_notation.specs.declared.turn.Turn.TheVariants.{Axis}
 use Rattle.scr_notation.specs.TurnNumbers.{axis_turn_at}
-use Rattle.scr_notation.proofs.AxisLaws.{axis_turn_at-axis, axis_turn_at-tip}
+use Rattle.scr_notation.proofs.NumberLaws.{axis_at, tip_at as tip_letter}
 use Rattle.scr_tetra.specs.Pyraminx.{TetraminxState, tetraminx_monoid, tetraminx_powers, PyramState, IsPyram, pyram_monoid, pyram_powers}
 use Rattle.scr_tetra.specs.PyramParts.{large_turns, tip_turn_count, turned_count}
 use Rattle.scr_tetra.proofs.PyramLaws.{large_turn, tip_turn, tetraminx_laws, lawful_tetraminx, lawful_pyram}
@@ -106,7 +106,9 @@ with_letter s r end t w own e rest =
     let P : Turn → Type 0 = λ u. IsByParts s end (u ∷ w) in
     elim (cases_lt n 8) [
       | inl lt ↦
-          let letter = axis_turn_at-axis n (n / 2) (n % 2 + 1) (omega arith) (omega arith) (omega arith) (omega arith) in
+          let same : n ≡ 2 * (n / 2) + (n % 2 + 1 - 1) = omega arith in
+          let letter = ap axis_turn_at same
+          ∙ axis_at (n / 2) (n % 2 + 1) (record { axis_below = omega arith; some_third = omega arith; no_whole = omega arith }) in
           let step = large_step s r n lt own again in
           let body = sym (ap ((after_letter tetraminx_powers) s.body) letter) ∙ step.body in
           let tips : turned_count r.tips ≡ turned_count s.tips = ap turned_count step.tips in
@@ -116,7 +118,9 @@ with_letter s r end t w own e rest =
             count = omega (arith, rest.count);
           })
       | inr le ↦
-          let letter = axis_turn_at-tip n ((n - 8) / 2) (n % 2 + 1) (omega arith) (omega arith) (omega arith) in
+          let same : n ≡ 8 + 2 * ((n - 8) / 2) + (n % 2 + 1 - 1) = omega arith in
+          let letter = ap axis_turn_at same
+          ∙ tip_letter ((n - 8) / 2) (n % 2 + 1) (record { axis_below = omega arith; some_third = omega arith; no_whole = omega arith }) in
           let step = tip_step s r n (n - 8) (omega arith) own again in
           subst P (sym letter ∙ number.2) (record {
             body = ap (λ b. play (after_letter tetraminx_powers) b (large_turns w)) (sym step.body) ∙ rest.body;

@@ -2,7 +2,7 @@
 ghost use Rattle.std.specs.Prelude.{◌≡◌, ◌<◌, replicate};
 ghost use Rattle.scr_combinatorics.specs.Digits.{mixed_digits};
 ghost use Rattle.scr_orbit.specs.InPlace.{AreDigitsInPlace};
-ghost use Rattle.scr_tetra.specs.Pyraminx.{IsTetraminx, thirds_number, tetraminx_digits, numbered_tetraminx, numbered_pyram};
+ghost use Rattle.scr_tetra.specs.Pyraminx.{thirds_number, numbered_tetraminx, numbered_pyram};
 
 use crate::pyraminx::Pyraminx;
 use crate::tetraminx::Tetraminx;
@@ -41,19 +41,6 @@ fn thirds_at(number: u128) -> [u8; 4]
     in_bytes(&MixedRadix::new([3; 4]).unrank(number))
 }
 
-/// The numbers of the axial pieces' digits and of the flips, and half the number of the list of edges.
-#[tactic(auto, unfolding(crate::specs::Pyraminx::tetraminx_digits))]
-fn digits_of(state: &Tetraminx) -> [u128; 3]
-    requires { IsTetraminx state.now }
-    ensures { result ≡ tetraminx_digits state.now }
-{
-    [
-        number_of_thirds(&state.axials()),
-        TwistRank::<6, 2>::rank(&state.flips()),
-        EvenPermRank::<6>::rank(&state.edges()),
-    ]
-}
-
 impl NumberedStates<Tetraminx> for TetraminxNumbers {
     ghost numbered = { λ _. numbered_tetraminx };
 }
@@ -64,18 +51,22 @@ impl Numbering for TetraminxNumbers {
     #[tactic(auto, using(crate::proofs::Cited::tetraminx_at), unfolding(crate::specs::Pyraminx::tetraminx_of_digits))]
     fn state_at(&self, number: u128) -> Tetraminx {
         let [axials, flips, edges] = MixedRadix::new(TETRAMINX_BASES).unrank(number);
-        Tetraminx::of_valid(
-            Placed::new(
+        Tetraminx {
+            edges: Placed::new(
                 EvenPermRank::<6>::unrank(edges),
                 TwistRank::<6, 2>::unrank(flips),
             ),
-            thirds_at(axials),
-        )
+            axials: thirds_at(axials),
+        }
     }
 
-    #[tactic(auto, using(crate::proofs::NumberedPyram::tetraminx_has_three))]
+    #[tactic(auto, using(crate::proofs::NumberedPyram::tetraminx_has_three), unfolding(crate::specs::Pyraminx::tetraminx_digits))]
     fn number_of(&self, state: &Tetraminx) -> u128 {
-        MixedRadix::new(TETRAMINX_BASES).rank(&digits_of(state))
+        MixedRadix::new(TETRAMINX_BASES).rank(&[
+            number_of_thirds(&state.axials()),
+            TwistRank::<6, 2>::rank(&state.flips()),
+            EvenPermRank::<6>::rank(&state.edges()),
+        ])
     }
 
     #[tactic(auto, using(crate::proofs::NumberedPyram::tetraminx_numbering))]
@@ -94,7 +85,10 @@ impl Numbering for PyramNumbers {
     #[tactic(auto, using(crate::proofs::Cited::pyram_state), unfolding(crate::specs::Pyraminx::pyram_of_digits))]
     fn state_at(&self, number: u128) -> Pyraminx {
         let [tips, body] = MixedRadix::new(PYRAM_BASES).unrank(number);
-        Pyraminx::of_valid(TetraminxNumbers.state_at(body), thirds_at(tips))
+        Pyraminx {
+            body: TetraminxNumbers.state_at(body),
+            tips: thirds_at(tips),
+        }
     }
 
     #[tactic(auto, using(crate::proofs::NumberedPyram::pyram_has_two), unfolding(crate::specs::Pyraminx::pyram_digits))]

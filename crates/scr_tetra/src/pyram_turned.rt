@@ -19,12 +19,11 @@ impl PowerTurned for Tetraminx {
     ghost after = { (after_letter tetraminx_powers) };
 
     fn turned(&self, number: usize) -> Tetraminx {
-        let (edges, axials) = self.parts();
         let added = axial_turns()[number];
-        Tetraminx::of_valid(
-            edges.turned(&edge_turns()[number], 2),
-            turned_in_place(axials, added),
-        )
+        Tetraminx {
+            edges: self.edges.turned(&edge_turns()[number], 2),
+            axials: turned_in_place(self.axials, added),
+        }
     }
 
     ghost generators = { HasGenerators-puzzle tetraminx_powers (lit≤ tt) };
@@ -43,10 +42,16 @@ impl PowerTurned for Pyraminx {
         let body = self.body();
         let tips = self.tips();
         if number < 8 {
-            Pyraminx::of_valid(body.turned(number), tips)
+            Pyraminx {
+                body: body.turned(number),
+                tips,
+            }
         } else {
             let added = axial_turns()[number - 8];
-            Pyraminx::of_valid(body, turned_in_place(tips, added))
+            Pyraminx {
+                body,
+                tips: turned_in_place(tips, added),
+            }
         }
     }
 

@@ -14,8 +14,8 @@ use std::marker::Model;
 /// Edge places and pieces: 0 UL, 1 UR, 2 UB, 3 LR, 4 LB, 5 RB. Axes: 0 U, 1 L, 2 R, 3 B.
 #[derive(Clone, Copy, Debug, PartialEq, Eq)]
 pub struct Pyraminx {
-    body: Tetraminx,
-    tips: [u8; 4],
+    pub(crate) body: Tetraminx,
+    pub(crate) tips: [u8; 4],
 }
 
 // Clauses see the state without tips, and the digits of the tips.
@@ -73,14 +73,6 @@ impl Pyraminx {
         ensures { IsTrue result ↔ (self.now ≡ solved_pyram) }
     {
         *self == Pyraminx::solved()
-    }
-
-    /// The state of a body and of tips that are known to be valid.
-    pub(crate) fn of_valid(body: Tetraminx, tips: [u8; 4]) -> Pyraminx
-        requires { IsPyram (record { body = body; tips = tips }) }
-        ensures { result ≡ record { body = body; tips = tips } }
-    {
-        Pyraminx { body, tips }
     }
 
     /// The state without the tips.

@@ -16,9 +16,9 @@ use std::marker::Model;
 /// the centres 0 U, 1 R, 2 F, 3 D, 4 L, 5 B.
 #[derive(Clone, Copy, Debug, PartialEq, Eq)]
 pub struct Skewb {
-    four: Placed<4>,
-    three: Placed<3>,
-    centres: Placed<6>,
+    pub(crate) four: Placed<4>,
+    pub(crate) three: Placed<3>,
+    pub(crate) centres: Placed<6>,
 }
 
 // Clauses see the three orbits.
@@ -79,28 +79,6 @@ impl Skewb {
         } else {
             None
         }
-    }
-
-    /// The Skewb of orbits that are known to be valid.
-    pub(crate) fn of_valid(four: Placed<4>, three: Placed<3>, centres: Placed<6>) -> Skewb
-        requires { IsSkewb (record { four = four; three = three; centres = centres }) }
-        ensures { result ≡ record { four = four; three = three; centres = centres } }
-    {
-        Skewb {
-            four,
-            three,
-            centres,
-        }
-    }
-
-    /// The four, the three and the centres at their places, with their twists.
-    pub(crate) fn orbits(&self) -> (Placed<4>, Placed<3>, Placed<6>)
-        ensures four { result.0 ≡ self.now.four }
-        ensures three { result.1 ≡ self.now.three }
-        ensures centres { result.2 ≡ self.now.centres }
-        ensures valid { IsSkewb self.now }
-    {
-        (self.four, self.three, self.centres)
     }
 
     /// Which corner of the four stands at each place.

@@ -2,7 +2,7 @@
 ghost use Rattle.std.specs.Prelude.{◌≡◌, ◌+◌, ◌<◌, [], ◌∷◌, ◌++◌};
 ghost use Rattle.scr_combinatorics.specs.Lists.{total};
 ghost use Rattle.scr_combinatorics.specs.Digits.{mixed_number, mixed_digits};
-ghost use Rattle.scr_tetra.specs.Skewb.{IsSkewb, completing, skewb_digits, skewb_numbered};
+ghost use Rattle.scr_tetra.specs.Skewb.{IsSkewb, completing, skewb_numbered};
 
 use crate::skewb::{Skewb, class_of};
 use scr_draw::{NumberedStates, Numbering};
@@ -61,42 +61,6 @@ fn number_of_three_twists(skewb: &Skewb) -> u128
     TwistRank::<4, 3>::rank(&[class_of(&skewb.four()), zero, one, two]) / 3
 }
 
-/// The numbers of the twists of the four, of those of the three, of the even list of the four and of that of the
-/// centres.
-#[tactic(auto, unfolding(crate::specs::Skewb::skewb_digits))]
-fn digits_of(skewb: &Skewb) -> [u128; 4]
-    requires { IsSkewb skewb.now }
-    ensures { result ≡ skewb_digits skewb.now }
-{
-    [
-        number_of_four_twists(skewb),
-        number_of_three_twists(skewb),
-        EvenPermRank::<4>::rank(&skewb.four()),
-        EvenPermRank::<6>::rank(&skewb.centres()),
-    ]
-}
-
-/// The four, the three and the centres of the Skewb with a number.
-#[tactic(auto, using(crate::proofs::Cited::orbits_at))]
-fn orbits_at(number: u128) -> (Placed<4>, Placed<3>, Placed<6>)
-    requires { number < skewb_numbered.count }
-    ensures four { result.0 ≡ (skewb_numbered.state_at number).four }
-    ensures three { result.1 ≡ (skewb_numbered.state_at number).three }
-    ensures centres { result.2 ≡ (skewb_numbered.state_at number).centres }
-{
-    let [four_twists, three_twists, four, centres] = MixedRadix::new(SKEWB_BASES).unrank(number);
-    let four = EvenPermRank::<4>::unrank(four);
-    let (twists, first) = twists_of_four(four_twists);
-    let three = EvenPermRank::<3>::unrank(u128::from(first));
-    let twists_of_three = twists_of_three(three_twists, class_of(&four));
-    let centres = EvenPermRank::<6>::unrank(centres);
-    (
-        Placed::new(four, twists),
-        Placed::new(three, twists_of_three),
-        Placed::new(centres, [0; 6]),
-    )
-}
-
 impl NumberedStates<Skewb> for SkewbNumbers {
     ghost numbered = { λ _. skewb_numbered };
 }
@@ -106,13 +70,29 @@ impl Numbering for SkewbNumbers {
 
     #[tactic(auto, using(crate::proofs::Cited::skewb_state))]
     fn state_at(&self, number: u128) -> Skewb {
-        let (four, three, centres) = orbits_at(number);
-        Skewb::of_valid(four, three, centres)
+        let [four_twists, three_twists, four, centres] = MixedRadix::new(SKEWB_BASES).unrank(
+            number,
+        );
+        let four = EvenPermRank::<4>::unrank(four);
+        let (twists, first) = twists_of_four(four_twists);
+        let three = EvenPermRank::<3>::unrank(u128::from(first));
+        let twists_of_three = twists_of_three(three_twists, class_of(&four));
+        let centres = EvenPermRank::<6>::unrank(centres);
+        Skewb {
+            four: Placed::new(four, twists),
+            three: Placed::new(three, twists_of_three),
+            centres: Placed::new(centres, [0; 6]),
+        }
     }
 
-    #[tactic(auto, using(crate::proofs::Cited::skewb_number))]
+    #[tactic(auto, using(crate::proofs::Cited::skewb_number), unfolding(crate::specs::Skewb::skewb_digits))]
     fn number_of(&self, state: &Skewb) -> u128 {
-        MixedRadix::new(SKEWB_BASES).rank(&digits_of(state))
+        MixedRadix::new(SKEWB_BASES).rank(&[
+            number_of_four_twists(state),
+            number_of_three_twists(state),
+            EvenPermRank::<4>::rank(&state.four()),
+            EvenPermRank::<6>::rank(&state.centres()),
+        ])
     }
 
     // 3^4 twists of the four, 3^2 of the three, 4!/2 even lists of the four, and 6!/2 of the centres.

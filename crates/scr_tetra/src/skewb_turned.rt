@@ -18,12 +18,11 @@ impl PowerTurned for Skewb {
     ghost after = { (after_letter skewb_powers) };
 
     fn turned(&self, number: usize) -> Skewb {
-        let (four, three, centres) = self.orbits();
-        Skewb::of_valid(
-            four.turned(&four_turns()[number], 3),
-            three.turned(&three_turns()[number], 3),
-            centres.turned(&centre_turns()[number], 1),
-        )
+        Skewb {
+            four: self.four.turned(&four_turns()[number], 3),
+            three: self.three.turned(&three_turns()[number], 3),
+            centres: self.centres.turned(&centre_turns()[number], 1),
+        }
     }
 
     ghost generators = { HasGenerators-puzzle skewb_powers (lit≤ tt) };

@@ -14,8 +14,8 @@ use std::marker::Model;
 /// Edge places and pieces: 0 UL, 1 UR, 2 UB, 3 LR, 4 LB, 5 RB. Axes: 0 U, 1 L, 2 R, 3 B.
 #[derive(Clone, Copy, Debug, PartialEq, Eq)]
 pub struct Tetraminx {
-    edges: Placed<6>,
-    axials: [u8; 4],
+    pub(crate) edges: Placed<6>,
+    pub(crate) axials: [u8; 4],
 }
 
 // Clauses see the orbit of the edges and the digits of the axial pieces.
@@ -62,23 +62,6 @@ impl Tetraminx {
         } else {
             None
         }
-    }
-
-    /// The state of parts that are known to be valid.
-    pub(crate) fn of_valid(edges: Placed<6>, axials: [u8; 4]) -> Tetraminx
-        requires { IsTetraminx (record { edges = edges; axials = axials }) }
-        ensures { result ≡ record { edges = edges; axials = axials } }
-    {
-        Tetraminx { edges, axials }
-    }
-
-    /// The edges at their places, with their flips, and the digits of the axial pieces.
-    pub(crate) fn parts(&self) -> (Placed<6>, [u8; 4])
-        ensures edges { result.0 ≡ self.now.edges }
-        ensures axials { result.1 ≡ self.now.axials }
-        ensures valid { IsTetraminx self.now }
-    {
-        (self.edges, self.axials)
     }
 
     /// Which edge stands at each place.

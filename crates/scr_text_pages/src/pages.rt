@@ -47,8 +47,9 @@ pub fn write_pages(
         }
         number += 1;
         let filled = filled_page(group, heads, pictures, from);
+        let free = LINES.saturating_sub(filled.lines) / (filled.end - from);
         let spacing = Spacing {
-            space: space_of(filled, from),
+            space: free.min(MOST_SPACE),
             end: filled.end,
             pictures,
         };
@@ -119,13 +120,4 @@ fn filled_page(group: &Group<'_>, heads: u32, pictures: bool, from: u32) -> Fill
         lines = more;
     }
     Filled { end, lines }
-}
-
-/// How many lines are left free at each scramble of a page that begins with a place.
-fn space_of(filled: Filled, from: u32) -> u32
-    requires { from < filled.end }
-    ensures { result ≤ 4 }
-{
-    let free = LINES.saturating_sub(filled.lines) / (filled.end - from);
-    free.min(MOST_SPACE)
 }

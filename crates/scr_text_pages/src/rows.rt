@@ -87,7 +87,7 @@ fn go_to_row(text: &mut String, reached: Reached, row: u8) -> Result<usize, Allo
     }
     end_row(text)?;
     write_empty_lines(text, u32::from(row - reached.row - 1))?;
-    begin_row(text)?;
+    text.push_str("   ")?;
     Ok(3)
 }
 
@@ -97,15 +97,6 @@ fn end_row(text: &mut String) -> Result<(), AllocError>
         → AddsLines (words_read words) before (string_bytes text.new)) }
 {
     text.push_str("\n")?;
-    Ok(())
-}
-
-/// Begins a row without a label.
-fn begin_row(text: &mut String) -> Result<(), AllocError>
-    ensures { OnOk result ((words : List (List ℕ)) (before : List ℕ)
-        → AddsLines (words_read words) before (string_bytes text.old) → AddsRow words before (string_bytes text.new)) }
-{
-    text.push_str("   ")?;
     Ok(())
 }
 

@@ -9,8 +9,11 @@ use Rattle.std.proofs.lemmas.List.Elements.{All-contains_itself}
 use Rattle.std.proofs.lemmas.Option.{same_Some}
 use Rattle.scr_combinatorics.specs.Play.{play}
 use Rattle.scr_combinatorics.specs.Back.{back}
+use Rattle.scr_notation.specs.declared.event.Event.TheVariants.{C333}
 use Rattle.scr_notation.specs.declared.turn.Turn.{Turn}
 use Rattle.scr_notation.specs.TurnNumbers.{face_turn_at}
+use Rattle.scr_notation.specs.Written.{Written, numbered_word}
+use Rattle.scr_notation.proofs.NumberLaws.{turns_333}
 use Rattle.scr_notation.specs.Turning.{opposite}
 use Rattle.scr_cube.specs.Cube333.{CubeState, solved_cube}
 use Rattle.scr_stages.proofs.SolutionLaws.{IsStageScramble-unique}
@@ -64,9 +67,6 @@ two_parts-played c tries w e =
 
 -- ---- the scramble
 
-pub length-back : (turns : List Turn) → length (back opposite turns) ≡ length turns
-length-back turns = length-reverse (map opposite turns) ∙ length-map turns opposite
-
 -- what is a scramble where the two parts are these, or there are none
 abbrev pub IsScrambleBy : Option (List ℕ) → CubeState → List Turn → Type 0
 IsScrambleBy o c turns = MatchOption o (IsStageScramble c turns) (λ word. turns ≡ back opposite (map face_turn_at word))
@@ -77,12 +77,24 @@ pub IsScrambleBy-unique : (o : Option (List ℕ)) (c : CubeState) (some other : 
 IsScrambleBy-unique None c some other a b = IsStageScramble-unique c some other a b
 IsScrambleBy-unique (Some w) c some other a b = a ∙ sym b
 
--- what two parts are, spelled
-pub spelled_parts : (o : Option (List ℕ)) (turns : List Turn) → Some turns ≡ option_map (map face_turn_at) o
-    → (w : List ℕ) × (o ≡ Some w) × (turns ≡ map face_turn_at w)
-spelled_parts None turns e = absurd (cc)
-spelled_parts (Some w) turns e = (w, refl, same_Some turns (map face_turn_at w) e)
+-- what the word of two parts is
+pub record IsWordOf (o : Option (List ℕ)) (w : Written) : Type 0 where
+  pub word : List ℕ
+  pub parts : o ≡ Some word
+  pub of_event : w.event ≡ C333
+  pub spelled : w.turns ≡ map face_turn_at word
 
-pub no_parts : (o : Option (List ℕ)) → ◌≡◌ {A = Option (List Turn)} None (option_map (map face_turn_at) o) → o ≡ None
+pub IsWordOf-some : (o : Option (List ℕ)) (w : Written) → Some w ≡ option_map (numbered_word C333) o → IsWordOf o w
+IsWordOf-some None w e = absurd (cc)
+IsWordOf-some (Some word) w e =
+    let is = same_Some w (numbered_word C333 word) e in
+    record {
+      word = word;
+      parts = refl;
+      of_event = ap (λ (v : Written). v.event) is;
+      spelled = ap (λ (v : Written). v.turns) is ∙ ap (λ f. map f word) turns_333;
+    }
+
+pub no_parts : (o : Option (List ℕ)) → ◌≡◌ {A = Option Written} None (option_map (numbered_word C333) o) → o ≡ None
 no_parts None e = refl
 no_parts (Some w) e = absurd (cc)

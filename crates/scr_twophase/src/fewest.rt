@@ -15,7 +15,7 @@ ghost use Rattle.scr_twophase.specs.TwoParts.{two_parts};
 use crate::scramble::scramble_333;
 use crate::tables::PruneTables;
 use scr_cube::{Cube, PowerTurned};
-use scr_notation::{Event, Scramble, Turn, inverse, numbered_scramble, push_all};
+use scr_notation::{Event, NumberedWord, Scramble, Turn, push_all};
 use scr_stages::StageTables;
 
 /// The scramble of a cube, of the event 333fm: R' U' F, the scramble of the cube that stands between, and R' U' F
@@ -33,7 +33,7 @@ pub fn scramble_333fm(
     ensures tested { IsTrue (is_framed result.turns) }
     ensures few { IsTrue (is_some (two_parts (between cube.now) tries)) → length result.turns ≤ 28 }
 {
-    let Some(back) = Cube::solved().play(&inverse(&frame())) else {
+    let Some(back) = Cube::solved().play(&frame().taken_back()) else {
         unreachable!();
     };
     let between = back.then(&cube.then(&back));
@@ -42,10 +42,10 @@ pub fn scramble_333fm(
 }
 
 /// R' U' F, which are the turns number 5, 2 and 6.
-fn frame() -> Scramble
+fn frame() -> NumberedWord
     ensures { result ≡ record { event = Fm333; turns = frame } }
 {
-    numbered_scramble(Event::Fm333, &[5, 2, 6])
+    NumberedWord::of(Event::Fm333, &[5, 2, 6])
 }
 
 /// A scramble between two frames.
@@ -54,9 +54,9 @@ fn framed(middle: &Scramble) -> Scramble
     requires room { length middle.now.turns ≤ 154 }
     ensures { result ≡ record { event = Fm333; turns = frame ++ middle.now.turns ++ frame } }
 {
-    let mut scramble = frame();
+    let mut scramble = frame().scramble();
     push_all(&mut scramble, middle);
-    push_all(&mut scramble, &frame());
+    push_all(&mut scramble, &frame().scramble());
     scramble
 }
 

@@ -1,9 +1,4 @@
 //! The first part: what a search for it sees of a cube, and where turns lead.
-ghost use Rattle.std.specs.Prelude.{◌≡◌};
-ghost use Rattle.scr_combinatorics.specs.Permutations.{IsPermutation};
-ghost use Rattle.scr_combinatorics.specs.PlaceSets.{IsPlaceSet};
-ghost use Rattle.scr_coord.specs.Projections.{marked_places, stands_in};
-ghost use Rattle.scr_stages.specs.Stages.{middle_edges};
 ghost use Rattle.scr_search.specs.Views.{Shows};
 ghost use Rattle.scr_twophase.specs.BothParts.{first_views};
 
@@ -96,20 +91,11 @@ impl Part for FirstPart {
 pub(crate) fn first_position(cube: &Cube) -> PartPosition
     ensures { Shows first_views cube.now result }
 {
+    let mut middle = [0; 4];
+    places_of(&MIDDLE_EDGES[..], &cube.edges()[..], &mut middle[..]);
     PartPosition {
         one: TwistRank::<12, 2>::rank(&cube.flips()) as u32,
         other: TwistRank::<8, 3>::rank(&cube.twists()) as u32,
-        middle: Choose::<12, 4>::rank(&middle_places(&cube.edges())) as u32,
+        middle: Choose::<12, 4>::rank(&middle) as u32,
     }
-}
-
-/// The places of the edges of the middle layer, in increasing order.
-fn middle_places(edges: &[u8; 12]) -> [u8; 4]
-    requires { IsPermutation 12 edges.now }
-    ensures places { result ≡ marked_places (stands_in middle_edges) edges.now }
-    ensures valid { IsPlaceSet 12 4 result }
-{
-    let mut places = [0; 4];
-    places_of(&MIDDLE_EDGES[..], &edges[..], &mut places[..]);
-    places
 }

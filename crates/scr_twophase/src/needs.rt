@@ -3,9 +3,8 @@ ghost use Rattle.std.specs.Prelude.{◌≡◌, ◌↔◌, ◌≤◌, length, IsT
 ghost use Rattle.scr_combinatorics.specs.Reach.{Needs};
 ghost use Rattle.scr_orbit.specs.PowerPuzzles.{power_puzzle};
 ghost use Rattle.scr_table.specs.Moves.{HasWordWithin};
-ghost use Rattle.scr_cube.specs.Cube333.{IsCube, cube_powers};
-ghost use Rattle.scr_twophase.specs.TwoParts.{is_solved as solved_test};
-ghost use Rattle.scr_twophase.specs.Minima.{astray, astray_most, face_moves, needs_turns};
+ghost use Rattle.scr_cube.specs.Cube333.{cube_powers};
+ghost use Rattle.scr_twophase.specs.Minima.{astray, face_moves, needs_turns};
 
 use scr_cube::{Cube, PowerTurned};
 
@@ -24,19 +23,21 @@ pub fn needs_333(cube: &Cube, least: u32) -> bool
     !is_within(cube, least - 1)
 }
 
-/// Whether a word of at most `most` turns, at most 4, solves a cube. Cubes that have more pieces astray than so many
-/// turns move are not turned.
+/// Whether a word of at most `most` turns, at most 4, solves a cube. Cubes that have more corners or more edges astray
+/// than so many turns move are not turned.
 fn is_within(cube: &Cube, most: u32) -> bool
     requires { most ≤ 4 }
     ensures { IsTrue result ↔ HasWordWithin face_moves cube.now most }
 {
-    if is_solved(cube) {
+    if *cube == Cube::solved() {
         return true;
     }
     if most == 0 {
         return false;
     }
-    if most_astray(cube) > MOVED * most {
+    let corners = pieces_astray(&cube.corners()[..], &cube.twists()[..]);
+    let edges = pieces_astray(&cube.edges()[..], &cube.flips()[..]);
+    if corners.max(edges) > MOVED * most {
         return false;
     }
     for turn in 0..18 {
@@ -45,23 +46,6 @@ fn is_within(cube: &Cube, most: u32) -> bool
         }
     }
     false
-}
-
-/// Whether a cube is solved.
-fn is_solved(cube: &Cube) -> bool
-    ensures { result ≡ solved_test cube.now }
-{
-    *cube == Cube::solved()
-}
-
-/// How many corners of a cube are astray or how many edges, whichever are more.
-fn most_astray(cube: &Cube) -> u32
-    ensures most { result ≡ astray_most cube.now }
-    ensures valid { IsCube cube.now }
-{
-    let corners = pieces_astray(&cube.corners()[..], &cube.twists()[..]);
-    let edges = pieces_astray(&cube.edges()[..], &cube.flips()[..]);
-    corners.max(edges)
 }
 
 /// How many pieces of an orbit, at most 12, are astray: not at their places, or there with a digit other than 0.

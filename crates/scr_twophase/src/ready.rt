@@ -1,7 +1,6 @@
 //! What makes searches faster and changes no answer: the outlooks of both parts' tables, and their near sets, found
 //! side by side.
 ghost use Rattle.std.specs.Prelude.{◌≡◌, ◌≤◌, IfOk, IsTrue, false};
-ghost use Rattle.scr_twophase.specs.Built.{distances_of};
 ghost use Rattle.scr_twophase.specs.Ready.{AreOnes, AreOthers, AreRest, IsNearOf};
 ghost use Rattle.scr_twophase.specs.BothParts.{first_views};
 
@@ -14,43 +13,23 @@ use std::thread::Threads;
 
 /// The outlooks of a table of each part.
 #[derive(Drop)]
-struct OutlookPair {
-    first: Vec<Outlook>,
-    second: Vec<Outlook>,
+pub(crate) struct OutlookPair {
+    pub first: Vec<Outlook>,
+    pub second: Vec<Outlook>,
 }
 
 /// All but the near set of the first part.
 #[derive(Drop)]
-struct Others {
+pub(crate) struct Others {
     /// By flips and by corners.
-    ones: OutlookPair,
+    pub ones: OutlookPair,
     /// By twists and by edges.
-    others: OutlookPair,
-    near: NearSet,
-}
-
-/// Finds outlooks, and builds near sets, by 1 to 64 workers. The tables stay the same.
-pub(crate) fn prepare<R: Threads + Sync>(
-    rt: &R,
-    alloc: Global,
-    first: &mut SearchTables<FirstPart>,
-    second: &mut SearchTables<SecondPart>,
-    workers: u32,
-) -> Result<(), AllocError>
-    requires workers { (1 ≤ workers) × (workers ≤ 64) }
-    ensures { distances_of first.new.one_slice first.new.other_slice second.new.one_slice second.new.other_slice
-        ≡ distances_of first.old.one_slice first.old.other_slice second.old.one_slice second.old.other_slice }
-{
-    let (near_first, others) = first_and_others(rt, alloc, first, second, workers);
-    let near_first = near_first?;
-    let Others { ones, others, near } = others?;
-    first.take_in(ones.first, others.first, near_first);
-    second.take_in(ones.second, others.second, near);
-    Ok(())
+    pub others: OutlookPair,
+    pub near: NearSet,
 }
 
 /// The near set of the first part, and all else, by workers who share them out: they take about the same time.
-fn first_and_others<R: Threads + Sync>(
+pub(crate) fn first_and_others<R: Threads + Sync>(
     rt: &R,
     alloc: Global,
     first: &SearchTables<FirstPart>,

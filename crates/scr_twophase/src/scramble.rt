@@ -5,14 +5,14 @@ ghost use Rattle.scr_combinatorics.specs.Play.{play};
 ghost use Rattle.scr_orbit.specs.PowerPuzzles.{after_letter};
 ghost use Rattle.scr_notation.specs.declared.event.Event.TheVariants.{C333};
 ghost use Rattle.scr_notation.specs.TurnNumbers.{face_turn_at};
-ghost use Rattle.scr_notation.specs.Written.{at_most, IsTheScramble};
+ghost use Rattle.scr_notation.specs.Written.{at_most, numbered_word, IsTheScramble};
 ghost use Rattle.scr_cube.specs.Cube333.{IsCube, cube_powers, solved_cube};
 ghost use Rattle.scr_twophase.specs.TwoParts.{two_parts, IsScramble333};
 
 use crate::first::first_position;
 use crate::tables::PruneTables;
 use scr_cube::Cube;
-use scr_notation::{Event, Scramble, inverse, numbered_scramble};
+use scr_notation::{Event, NumberedWord, Scramble};
 use scr_search::{Search, Word};
 use scr_stages::{StageTables, scramble_by_stages};
 
@@ -25,19 +25,7 @@ pub fn two_parts(tables: &PruneTables, cube: &Cube, tries: u32) -> Option<Scramb
     ensures played { IfSome result (λ s. play (after_letter cube_powers) cube.now s.turns ≡ Some solved_cube) }
     ensures valid { IsCube cube.now }
 {
-    let at = first_position(cube);
-    let mut word = Word::empty();
-    let mut left = tries;
-    let parts = Search {
-        tables: &tables.first,
-        rest: &tables.second,
-        cube,
-    };
-    if parts.within(&mut word, at, &mut left) {
-        Some(numbered_scramble(Event::C333, word.turns()))
-    } else {
-        None
-    }
+    Some(parts_word(tables, cube, tries)?.scramble())
 }
 
 /// The scramble of a cube, for two hands or one: its two parts taken back, of at most 22 turns; and where none of its
@@ -47,8 +35,29 @@ pub fn scramble_333(prune: &PruneTables, stages: &StageTables, cube: &Cube, trie
         (play (after_letter cube_powers) solved_cube) cube.now result }
     ensures few { IsTrue (is_some (two_parts cube.now tries)) → length result.turns ≤ 22 }
 {
-    match two_parts(prune, cube, tries) {
-        Some(parts) => inverse(&parts),
+    match parts_word(prune, cube, tries) {
+        Some(word) => word.taken_back(),
         None => scramble_by_stages(stages, cube),
+    }
+}
+
+/// The word of the two parts of a cube.
+fn parts_word(tables: &PruneTables, cube: &Cube, tries: u32) -> Option<NumberedWord>
+    ensures parts { result ≡ option_map (numbered_word C333) (two_parts cube.now tries) }
+    ensures few { IfSome result (λ word. length word.turns ≤ 22) }
+    ensures valid { IsCube cube.now }
+{
+    let at = first_position(cube);
+    let mut word = Word::empty();
+    let mut left = tries;
+    let parts = Search {
+        tables: &tables.first,
+        rest: &tables.second,
+        cube,
+    };
+    if parts.within(&mut word, at, &mut left) {
+        Some(NumberedWord::of(Event::C333, word.turns()))
+    } else {
+        None
     }
 }

@@ -5,7 +5,7 @@ ghost use Rattle.scr_table.specs.Lines.{AreTablesOf, HasNoGap};
 ghost use Rattle.scr_twophase.specs.Tables.{first_lines, prune_lines, second_lines};
 
 use crate::first::FirstPart;
-use crate::ready::prepare;
+use crate::ready::{Others, first_and_others};
 use crate::second::SecondPart;
 use scr_search::SearchTables;
 use scr_table::{BuildFault, DistanceTable, TableName, TableSet, table_named};
@@ -98,9 +98,14 @@ impl PruneTables {
         requires workers { (1 ≤ workers) × (workers ≤ 64) }
         ensures { self.new ≡ self.old }
     {
-        if cubes >= MANY {
-            prepare(rt, alloc, &mut self.first, &mut self.second, workers)?;
+        if cubes < MANY {
+            return Ok(());
         }
+        let (near_first, others) = first_and_others(rt, alloc, &self.first, &self.second, workers);
+        let near_first = near_first?;
+        let Others { ones, others, near } = others?;
+        self.first.take_in(ones.first, others.first, near_first);
+        self.second.take_in(ones.second, others.second, near);
         Ok(())
     }
 

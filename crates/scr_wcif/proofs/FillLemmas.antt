@@ -4,12 +4,12 @@ use Rattle.std.specs.Prelude.{◌<◌, All, IfOk, IfSome, cond, codes, nat_lt, l
 use Rattle.std.specs.Str.{bytes_eq}
 use Rattle.std.proofs.lemmas.List.Elements.{All-head, All-tail}
 use Rattle.std.specs.List.{position_or_len}
-use Rattle.std.proofs.Common.{zero, get_or, ◌-◌, take, drop, rules}
+use Rattle.std.proofs.Common.{zero, get_or, ◌-◌, take, drop}
 use borrow.Author.Tests.{lt-ltb, ltb-true}
-use Rattle.json.specs.declared.value.Value.{Value, String, the_lemmas}
+use Rattle.json.specs.declared.value.Value.{Value}
 use Rattle.std.proofs.lemmas.List.{take_all}
 use Rattle.json.specs.Print.{IsNumber}
-use Rattle.json.specs.Json.{Json, null, boolean, number, string, array, object, Items, no_items, item, Members, no_members, member}
+use Rattle.json.specs.Json.{Json, string, array, object, Items, no_items, item, Members, no_members, member}
 use Rattle.json.specs.Value.{value_view, members_view, items_of, members_of}
 use Rattle.json.specs.Tree.{depth, items_depth, members_depth, HasNumbers, ItemsHaveNumbers, MembersHaveNumbers}
 use Rattle.scr_wcif.specs.Sets.{ScrambleSet, RoundSets, HaveNumbers}
@@ -31,9 +31,6 @@ pub changed_members-of : (key : List ℕ) (f : Json → Json) (ms : List (Bor (L
 changed_members-of key f [] = refl
 changed_members-of key f (m ∷ ms) =
     ap (member m.0.now (cond (bytes_eq m.0.now key) (each_item f m.1) m.1)) (changed_members-of key f ms)
-
-pub view-String : (text : Bor (List ℕ)) → value_view {A = Global} (String text) ≡ string text.now
-view-String text = search (rules, the_lemmas)
 
 pub map-same : {X : Type 0} (xs : List X) → map (λ x. x) xs ≡ xs
 map-same [] = refl
@@ -125,12 +122,8 @@ module _ (f : Json → Json) (kept : (j : Json) → HasNumbers j → HasNumbers 
   numbers-items (item j js) all = (kept j all.0, numbers-items js all.1)
 
   numbers-each : (j : Json) → HasNumbers j → HasNumbers (each_item f j)
-  numbers-each null all = all
-  numbers-each (boolean b) all = all
-  numbers-each (number s) all = all
-  numbers-each (string s) all = all
   numbers-each (array js) all = numbers-items js all
-  numbers-each (object ms) all = all
+  numbers-each j all = all
 
   numbers-where : (b : Bool) (j : Json) → HasNumbers j → HasNumbers (cond b (each_item f j) j)
   numbers-where true j all = numbers-each j all
@@ -141,12 +134,8 @@ module _ (f : Json → Json) (kept : (j : Json) → HasNumbers j → HasNumbers 
   numbers-members key (member k j ms) all = (numbers-where (bytes_eq k key) j all.0, numbers-members key ms all.1)
 
   pub numbers-at : (key : List ℕ) (j : Json) → HasNumbers j → HasNumbers (changed_at key f j)
-  numbers-at key null all = all
-  numbers-at key (boolean b) all = all
-  numbers-at key (number s) all = all
-  numbers-at key (string s) all = all
-  numbers-at key (array js) all = all
   numbers-at key (object ms) all = numbers-members key ms all
+  numbers-at key j all = all
 
 pub numbers-along : (keys : List (List ℕ)) (f : Json → Json) → ((j : Json) → HasNumbers j → HasNumbers (f j)) →
     (j : Json) → HasNumbers j → HasNumbers (changed_along keys f j)
@@ -165,12 +154,8 @@ numbers-with_member key new (member k j ms) it all = at (bytes_eq k key) (number
 
 numbers-with_field : (key : List ℕ) (new : Json) (j : Json) → HasNumbers new → HasNumbers j
     → HasNumbers (with_field key new j)
-numbers-with_field key new null it all = all
-numbers-with_field key new (boolean b) it all = all
-numbers-with_field key new (number s) it all = all
-numbers-with_field key new (string s) it all = all
-numbers-with_field key new (array js) it all = all
 numbers-with_field key new (object ms) it all = numbers-with_member key new ms it all
+numbers-with_field key new j it all = all
 
 numbers-texts : (texts : List (List ℕ)) → ItemsHaveNumbers (items_of (map string texts))
 numbers-texts [] = tt
@@ -213,12 +198,8 @@ module _ (n : ℕ) (f : Json → Json) (kept : (j : Json) → depth (f j) ≤ ma
   depth-items (item j js) = omega (arith, kept j, depth-items js)
 
   depth-each : (j : Json) → depth (each_item f j) ≤ max (depth j) (suc n)
-  depth-each null = omega arith
-  depth-each (boolean b) = omega arith
-  depth-each (number s) = omega arith
-  depth-each (string s) = omega arith
   depth-each (array js) = omega (arith, depth-items js)
-  depth-each (object ms) = omega arith
+  depth-each j = omega arith
 
   depth-where : (b : Bool) (j : Json) → depth (cond b (each_item f j) j) ≤ max (depth j) (suc n)
   depth-where true j = depth-each j
@@ -229,12 +210,8 @@ module _ (n : ℕ) (f : Json → Json) (kept : (j : Json) → depth (f j) ≤ ma
   depth-members key (member k j ms) = omega (arith, depth-where (bytes_eq k key) j, depth-members key ms)
 
   pub depth-at : (key : List ℕ) (j : Json) → depth (changed_at key f j) ≤ max (depth j) (suc (suc n))
-  depth-at key null = omega arith
-  depth-at key (boolean b) = omega arith
-  depth-at key (number s) = omega arith
-  depth-at key (string s) = omega arith
-  depth-at key (array js) = omega arith
   depth-at key (object ms) = omega (arith, depth-members key ms)
+  depth-at key j = omega arith
 
 depth-with_member : (key : List ℕ) (new : Json) (ms : Members) → members_depth (with_member key new ms) ≤ max (members_depth ms) (depth new)
 depth-with_member key new no_members = omega arith
@@ -246,12 +223,8 @@ depth-with_member key new (member k j ms) = at (bytes_eq k key) (depth-with_memb
     at false more = omega arith
 
 depth-with_field : (key : List ℕ) (new : Json) (j : Json) → depth (with_field key new j) ≤ max (depth j) (suc (depth new))
-depth-with_field key new null = omega arith
-depth-with_field key new (boolean b) = omega arith
-depth-with_field key new (number s) = omega arith
-depth-with_field key new (string s) = omega arith
-depth-with_field key new (array js) = omega arith
 depth-with_field key new (object ms) = omega (arith, depth-with_member key new ms)
+depth-with_field key new j = omega arith
 
 depth-texts : (texts : List (List ℕ)) → items_depth (items_of (map string texts)) ≤ 0
 depth-texts [] = omega arith

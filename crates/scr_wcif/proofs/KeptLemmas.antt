@@ -7,7 +7,7 @@ use Rattle.std.proofs.lemmas.List.Elements.{All-cons, All-nil}
 use Rattle.std.proofs.lemmas.List.Kept.{AllPairs-cons}
 use Rattle.std.proofs.lemmas.List.Quantifiers.{all_pairs_push}
 use Rattle.std.proofs.lemmas.Slice.Eq.{bytes_eq-Decides}
-use Rattle.json.specs.Json.{Json, null, boolean, number, string, array, object, Items, no_items, item, Members, no_members, member}
+use Rattle.json.specs.Json.{Json, string, array, object, Items, no_items, item, Members, no_members, member}
 use Rattle.json.specs.Value.{items_of}
 use Rattle.json.specs.Strict.{keys, AreDistinct, HasUniqueKeys, ItemsHaveUniqueKeys, MembersHaveUniqueKeys}
 use Rattle.scr_wcif.specs.Fields.{text_at}
@@ -23,12 +23,8 @@ module _ (f g : Json → Json) (same : (j : Json) → g (f j) ≡ g j) where
   again-items (item j js) = ap (λ k. item k (changed_items g (changed_items f js))) (same j) ∙ ap (item (g j)) (again-items js)
 
   again-each : (j : Json) → each_item g (each_item f j) ≡ each_item g j
-  again-each null = refl
-  again-each (boolean b) = refl
-  again-each (number s) = refl
-  again-each (string s) = refl
   again-each (array js) = ap array (again-items js)
-  again-each (object ms) = refl
+  again-each j = refl
 
   again-where : (b : Bool) (j : Json) → cond b (each_item g (cond b (each_item f j) j)) (cond b (each_item f j) j) ≡ cond b (each_item g j) j
   again-where true j = again-each j
@@ -41,12 +37,8 @@ module _ (f g : Json → Json) (same : (j : Json) → g (f j) ≡ g j) where
       ∙ ap (member k (cond (bytes_eq k key) (each_item g j) j)) (again-members key ms)
 
   pub again-at : (key : List ℕ) (j : Json) → changed_at key g (changed_at key f j) ≡ changed_at key g j
-  again-at key null = refl
-  again-at key (boolean b) = refl
-  again-at key (number s) = refl
-  again-at key (string s) = refl
-  again-at key (array js) = refl
   again-at key (object ms) = ap object (again-members key ms)
+  again-at key j = refl
 
 again-along : (keys : List (List ℕ)) (f g : Json → Json) → ((j : Json) → g (f j) ≡ g j) →
     (j : Json) → changed_along keys g (changed_along keys f j) ≡ changed_along keys g j
@@ -71,12 +63,8 @@ without-with_member key new (member k j ms) = at (cases_Bool (bytes_eq k key)) (
         ∙ sym (ap (λ b. cond b (without_member key ms) (member k j (without_member key ms))) other)
 
 without-with_field : (key : List ℕ) (new : Json) (j : Json) → without_field key (with_field key new j) ≡ without_field key j
-without-with_field key new null = refl
-without-with_field key new (boolean b) = refl
-without-with_field key new (number s) = refl
-without-with_field key new (string s) = refl
-without-with_field key new (array js) = refl
 without-with_field key new (object ms) = ap object (without-with_member key new ms)
+without-with_field key new j = refl
 
 without-filled_round : (rounds : List RoundSets) (j : Json) → without_field (codes "scrambleSets") (filled_round rounds j) ≡ without_field (codes "scrambleSets") j
 without-filled_round rounds j = with (option_and_then (sets_at rounds) (text_at (codes "id") j))
@@ -97,12 +85,8 @@ module _ (f : Json → Json) (kept : (j : Json) → HasUniqueKeys j → HasUniqu
   unique-items (item j js) all = (kept j all.0, unique-items js all.1)
 
   unique-each : (j : Json) → HasUniqueKeys j → HasUniqueKeys (each_item f j)
-  unique-each null all = all
-  unique-each (boolean b) all = all
-  unique-each (number s) all = all
-  unique-each (string s) all = all
   unique-each (array js) all = unique-items js all
-  unique-each (object ms) all = all
+  unique-each j all = all
 
   unique-where : (b : Bool) (j : Json) → HasUniqueKeys j → HasUniqueKeys (cond b (each_item f j) j)
   unique-where true j all = unique-each j all
@@ -117,12 +101,8 @@ module _ (f : Json → Json) (kept : (j : Json) → HasUniqueKeys j → HasUniqu
   same-keys key (member k j ms) = ap (λ ks. k ∷ ks) (same-keys key ms)
 
   pub unique-at : (key : List ℕ) (j : Json) → HasUniqueKeys j → HasUniqueKeys (changed_at key f j)
-  unique-at key null all = all
-  unique-at key (boolean b) all = all
-  unique-at key (number s) all = all
-  unique-at key (string s) all = all
-  unique-at key (array js) all = all
   unique-at key (object ms) all = (subst AreDistinct (sym (same-keys key ms)) all.0, unique-members key ms all.1)
+  unique-at key j all = all
 
 unique-along : (ks : List (List ℕ)) (f : Json → Json) → ((j : Json) → HasUniqueKeys j → HasUniqueKeys (f j)) →
     (j : Json) → HasUniqueKeys j → HasUniqueKeys (changed_along ks f j)
@@ -173,12 +153,8 @@ unique-with_member key new (member k j ms) it all = at (bytes_eq k key) (unique-
 
 unique-with_field : (key : List ℕ) (new : Json) (j : Json) → HasUniqueKeys new → HasUniqueKeys j
     → HasUniqueKeys (with_field key new j)
-unique-with_field key new null it all = all
-unique-with_field key new (boolean b) it all = all
-unique-with_field key new (number s) it all = all
-unique-with_field key new (string s) it all = all
-unique-with_field key new (array js) it all = all
 unique-with_field key new (object ms) it all = (distinct-with_member key new ms all.0, unique-with_member key new ms it all.1)
+unique-with_field key new j it all = all
 
 unique-texts : (texts : List (List ℕ)) → ItemsHaveUniqueKeys (items_of (map string texts))
 unique-texts [] = tt

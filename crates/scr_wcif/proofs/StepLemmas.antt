@@ -1,16 +1,18 @@
 -- A list that grows by what each of some items gives, one after another.
 use Rattle.std.proofs.Common.{◌≡◌, ℕ, ◌+◌, ◌-◌, ◌≤◌, List, [], ◌∷◌, ◌++◌, map, take, drop, length, get_or, Option, Some, None, Result, Ok, Err, refl, sym, ap, subst, ◌∙◌, arith, append_assoc, Bor}
-use Rattle.std.specs.Prelude.{OnOk, All, option_to_list}
+use Rattle.std.specs.Prelude.{All, codes, ok_or, option_to_list}
 use Rattle.std.specs.List.{filter_map}
-use Rattle.std.proofs.lemmas.List.{take_all, map-append}
+use Rattle.std.proofs.lemmas.List.{take_all}
 use Rattle.std.proofs.lemmas.List.Elements.{All-cons, All-nil, All-append, All-tail}
 use Rattle.json.specs.Json.{Json, Items, item}
 use Rattle.scr_text.specs.Steps.{and_then}
 use Rattle.scr_wcif.specs.declared.fault.FileFault.{FileFault}
+use Rattle.scr_wcif.specs.declared.fault.FileFault.TheVariants.{NoCompetition}
+use Rattle.scr_wcif.specs.Fields.{list_at}
 use Rattle.scr_host.specs.declared.fault.Fault.{Fault}
 use Rattle.scr_host.specs.declared.fault.Fault.TheVariants as fault
 use Rattle.scr_wcif.specs.FileRound.{NamedRound}
-use Rattle.scr_wcif.specs.FileRounds.{FileEvent, count_of, round_of_entry, rounds_of_entries, event_of_entry, rounds_of_events}
+use Rattle.scr_wcif.specs.FileRounds.{FileEvent, count_of, round_of_entry, rounds_of_entries, event_of_entry, rounds_of_events, rounds_of_file}
 use Rattle.scr_host.specs.Faults.{IsOwn}
 use Rattle.scr_wcif.specs.Adding.{Adds}
 
@@ -21,23 +23,6 @@ split-first [] first few is = absurd (omega arith)
 split-first (x ∷ xs) first few is =
     ap (λ f. f ∷ xs) (sym is) ∙ ap (λ rest. first ∷ rest) (sym (take_all (length (x ∷ xs) - 1) xs (omega arith)))
 
--- a list grows by what the first item gives, and then by what the others give
-pub grown : {X Y E : Type 0} (f : List X → List Y) (result : Result (Unit {0}) E) (old mid new : List Y) (xs : List X) (first : X) (rest : List X) (head : List Y) →
-    xs ≡ first ∷ rest → f (first ∷ rest) ≡ head ++ f rest → mid ≡ old ++ head → OnOk result (new ≡ mid ++ f rest) →
-    OnOk result (new ≡ old ++ f xs)
-grown f (Ok done) old mid new xs first rest head are step mid_is new_is =
-    new_is ∙ ap (λ l. l ++ f rest) mid_is ∙ append_assoc old head (f rest)
-    ∙ ap (λ l. old ++ l) (sym step ∙ ap f (sym are))
-grown f (Err why) old mid new xs first rest head are step mid_is new_is = new_is
-
--- a list whose items are seen as others grows by what is seen of one more
-pub grown-view : {V X Y E : Type 0} (view : V → Y) (f : List X → List Y) (result : Result (Unit {0}) E) (old mid new : List V) (v : V) (xs : List X) (first : X) (rest : List X) →
-    xs ≡ first ∷ rest → f (first ∷ rest) ≡ view v ∷ f rest → mid ≡ old ++ v ∷ [] → OnOk result (map view new ≡ map view mid ++ f rest) →
-    OnOk result (map view new ≡ map view old ++ f xs)
-grown-view view f result old mid new v xs first rest are step mid_is new_is =
-    grown f result (map view old) (map view mid) (map view new) xs first rest (view v ∷ []) are step
-    (ap (map view) mid_is ∙ map-append view old (v ∷ [])) new_is
-
 pub filter_map-step : {X Y : Type 0} (h : X → Option Y) (first : X) (rest : List X)
     → filter_map h (first ∷ rest) ≡ option_to_list (h first) ++ filter_map h rest
 filter_map-step {X = X} {Y = Y} h first rest = at (h first) refl
@@ -47,11 +32,6 @@ filter_map-step {X = X} {Y = Y} h first rest = at (h first) refl
     at (Some y) is = rw is refl
 
 -- what holds of the items so far, and of the next
-pub all-step : {X E : Type 0} (P : X → Type 0) (result : Result (Unit {0}) E) (old new : List X) (x : X) → P x → All P old →
-    OnOk result (new ≡ old ++ x ∷ []) → OnOk result (All P new)
-all-step P (Ok done) old new x it all is = subst (All P) (sym is) (All-append P old (x ∷ []) all (All-cons P x [] it (All-nil P)))
-all-step P (Err why) old new x it all is = is
-
 pub all-added : {X : Type 0} (P : X → Type 0) (old new : List X) (x : X) → P x → All P old → new ≡ old ++ x ∷ [] → All P new
 all-added P old new x it all is = subst (All P) (sym is) (All-append P old (x ∷ []) all (All-cons P x [] it (All-nil P)))
 
@@ -148,6 +128,10 @@ pub later-ids : (ids later : List (Bor (List ℕ))) (id : Bor (List ℕ)) → la
 later-ids ids later id is = ap (map now) is ∙ ids-snoc ids id
 
 -- ---- the whole file
+
+pub file-rounds : (json : Json) (events : Items) → list_at (codes "events") json ≡ Some events → rounds_of_file json ≡ rounds_of_events 1 [] events
+unfolding rounds_of_file
+file-rounds json events there = ap (λ o. and_then (ok_or o NoCompetition) (rounds_of_events 1 [])) there
 
 pub from-empty : (ids : List (Bor (List ℕ))) (old new : List NamedRound) (js : Items) (result : Result (Unit {0}) (Fault FileFault)) → ids ≡ [] → old ≡ [] →
     Adds (rounds_of_events 1 (map (λ (id : Bor (List ℕ)). id.now) ids) js) old new result → Adds (rounds_of_events 1 [] js) [] new result

@@ -1,12 +1,10 @@
 -- What was made of an input: a list, or a file with the scrambles of a sheet.
-use Rattle.std.specs.Prelude.{ℕ, ◌≡◌, List, Result, Ok, Err, string_bytes}
+use Rattle.std.specs.Prelude.{ℕ, ◌≡◌, List, Result, Err, string_bytes}
 use Rattle.json.specs.Json.{Json}
 use Rattle.scr_host.specs.declared.fault.Fault.{Fault}
 use Rattle.scr_wcif.specs.declared.fault.FileFault.{FileFault}
 use Rattle.scr_wcif.specs.declared.made.Made.{Made}
 use Rattle.scr_wcif.specs.FileRound.{NamedRound}
-use Rattle.scr_wcif.specs.FileRounds.{rounds_of_file}
-use Rattle.scr_wcif.specs.Listed.{IsListOf, left_out_text}
 use Rattle.scr_wcif.specs.Adding.{IsAnswer}
 use Rattle.scr_wcif.specs.Reading.{IsFile}
 use Rattle.scr_wcif.specs.Sets.{EventSets}
@@ -19,17 +17,7 @@ use Rattle.scr_wcif.specs.Outcome.{ComesToList, NamesNone}
 abbrev pub Makes : (List ℕ → List ℕ → Type 0) → (FileFault → Type 0) → Result Made (Fault FileFault) → Type 0
 Makes Comes Fails = IsAnswer (λ made. Comes made.text.items (string_bytes made.told)) Fails
 
--- a text is the list of the rounds that a value names, with what is told of those that it leaves out
-pub record IsListOfValue (json : Json) (text told : List ℕ) : Type 0 where
-  pub named : List NamedRound
-  pub names : rounds_of_file json ≡ Ok named
-  pub list_is : IsListOf named text
-  pub told_is : told ≡ left_out_text named
-
-abbrev pub ListsValue : Json → Result Made (Fault FileFault) → Type 0
-ListsValue json = Makes (IsListOfValue json) (λ why. rounds_of_file json ≡ Err why)
-
--- the same of the bytes of a file
+-- the list of the rounds that the bytes of a file name
 abbrev pub ListsFile : List ℕ → Result Made (Fault FileFault) → Type 0
 ListsFile bytes = Makes (ComesToList bytes) (NamesNone bytes)
 

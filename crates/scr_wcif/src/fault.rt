@@ -4,7 +4,7 @@ ghost use Rattle.std.specs.Prelude.{◌≡◌};
 ghost use Rattle.scr_host.specs.declared.fault.Fault.TheVariants.{Own};
 ghost use Rattle.scr_wcif.specs.declared.fault.FileFault.TheVariants.{SheetLine};
 
-use scr_read::{SheetCause, SheetFault};
+use scr_read::SheetCause;
 
 /// Why an entry of the list of events tells no event. Where more than one applies, it is the first of: many, shape,
 /// unknown, twice, rounds.
@@ -93,16 +93,5 @@ impl From<FileFault> for Fault {
 
     fn from(fault: FileFault) -> Fault {
         Fault::Own(fault)
-    }
-}
-
-impl From<SheetFault> for FileFault {
-    fn from(at: SheetFault) -> FileFault
-        ensures { result ≡ SheetLine at.line at.cause }
-    {
-        FileFault::SheetLine {
-            line: at.line,
-            cause: at.cause,
-        }
     }
 }

@@ -119,23 +119,13 @@ fn sets_of_round<'a>(round: &Value<'a>, rounds: &[RoundSets<'a>]) -> Option<&'a 
     ensures { option_map (λ sets. sets.now) result
         ≡ option_and_then (sets_at rounds.now) (text_at (codes "id") (value_view round.now)) }
 {
-    sets_at(rounds, text_at(round, "id")?)
-}
-
-/// The sets that stand under an id. It calls itself at most once for each.
-fn sets_at<'a>(rounds: &[RoundSets<'a>], id: &str) -> Option<&'a [ScrambleSet]>
-    ensures { option_map (λ sets. sets.now) result ≡ sets_at rounds.now id.now }
-{
-    match rounds {
-        [] => None,
-        [round, rest @ ..] => {
-            if round.id.as_str() == id {
-                Some(round.sets)
-            } else {
-                sets_at(rest, id)
-            }
+    let id = text_at(round, "id")?;
+    for given in rounds {
+        if given.id.as_str() == id {
+            return Some(given.sets);
         }
     }
+    None
 }
 
 /// An object with this value at a key.

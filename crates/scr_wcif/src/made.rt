@@ -1,10 +1,9 @@
 //! What is made of an input: a list, or a file with the scrambles of a sheet.
 
 ghost use Rattle.std.specs.Prelude.{◌≤◌, length};
-ghost use Rattle.json.specs.Value.{value_view};
 ghost use Rattle.scr_host.specs.Input.{most_bytes};
 ghost use Rattle.scr_wcif.specs.Outcome.{ComesTo, ComesToNothing};
-ghost use Rattle.scr_wcif.specs.Made.{Makes, ListsFile, ListsValue};
+ghost use Rattle.scr_wcif.specs.Made.{Makes, ListsFile};
 
 use crate::command::Command;
 use crate::fault::Fault;
@@ -12,7 +11,7 @@ use crate::filled::filled_text;
 use crate::list::{left_out, list_of};
 use crate::rounds::rounds_of_file;
 use crate::value::value_of;
-use json::{Scratch, Value};
+use json::Scratch;
 use std::alloc::Global;
 
 /// A text that was made, and what is told of the rounds that it leaves out.
@@ -41,14 +40,7 @@ fn list_of_bytes(alloc: Global, bytes: &[u8]) -> Result<Made, Fault>
 {
     let mut scratch = Scratch::new(alloc);
     let file = value_of(alloc, bytes, &mut scratch)?;
-    list_of_value(alloc, &file)
-}
-
-/// The list of the rounds that a file names.
-fn list_of_value(alloc: Global, file: &Value<'_>) -> Result<Made, Fault>
-    ensures { ListsValue (value_view file.now) result }
-{
-    let named = rounds_of_file(alloc, file)?;
+    let named = rounds_of_file(alloc, &file)?;
     let text = list_of(alloc, &named)?.into_bytes();
     let told = left_out(alloc, &named)?;
     Ok(Made { text, told })

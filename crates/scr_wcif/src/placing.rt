@@ -1,6 +1,6 @@
 //! Which sets of a sheet's rounds the rounds of a file get.
 
-ghost use Rattle.std.specs.Prelude.{◌≡◌, ◌+◌, ◌≤◌, [], All, filter, length, IfOk, OnOk};
+ghost use Rattle.std.specs.Prelude.{◌≡◌, ◌+◌, ◌≤◌, All, filter, length, IfOk, OnOk};
 ghost use Rattle.scr_host.specs.declared.fault.Fault.TheVariants.{Own};
 ghost use Rattle.scr_wcif.specs.Adding.{Adds, Gives};
 ghost use Rattle.scr_wcif.specs.Placing.{is_known, placed_round, placed_from, placed_rounds};
@@ -9,8 +9,9 @@ ghost use Rattle.scr_wcif.specs.declared.fault.FileFault.TheVariants.{Sheet};
 
 use crate::adding::add;
 use crate::fault::{Difference, Fault, FileFault};
-use crate::round::FileRound;
+use crate::round::{FileRound, id_of_round};
 use crate::set::{EventSets, RoundSets};
+use scr_list::event_named;
 use std::alloc::Global;
 
 /// The sets of a sheet's rounds under the ids of the rounds that a file has in their places, or the first round that differs.
@@ -44,9 +45,12 @@ fn push_placed<'a>(
     ensures numbers { OnOk result (All SetsHaveNumbers placed.new.items) }
 {
     match named {
-        [] => no_more(number, sheet),
+        [] => match sheet {
+            [] => Ok(()),
+            _ => Err(differs(number, Difference::More)),
+        },
         [first, rest @ ..] => {
-            if !first.is_known() {
+            if event_named(first.event.as_bytes()).is_none() {
                 return push_placed(alloc, number, rest, sheet, placed);
             }
             match sheet {
@@ -58,16 +62,6 @@ fn push_placed<'a>(
                 }
             }
         }
-    }
-}
-
-/// That a sheet has no more rounds.
-fn no_more(number: u32, sheet: &[EventSets]) -> Result<(), Fault>
-    ensures { Gives (placed_from number [] sheet.now) (λ _. []) result }
-{
-    match sheet {
-        [] => Ok(()),
-        _ => Err(differs(number, Difference::More)),
     }
 }
 
@@ -88,7 +82,7 @@ fn placed_round<'a>(
     if round.sets.len() != usize::from(named.groups) {
         return Err(differs(number, Difference::Groups));
     }
-    let id = named.id(alloc)?;
+    let id = id_of_round(alloc, named.event, named.number)?;
     Ok(RoundSets {
         id,
         sets: &round.sets,

@@ -1,8 +1,7 @@
 //! The program, by what it does on words.
 
-ghost use Rattle.std.specs.Prelude.{◌≤◌, length};
 ghost use Rattle.scr_outside.specs.Change.{change_of, intake_of};
-ghost use Rattle.scr_host.specs.Input.{most_bytes, EndsReading};
+ghost use Rattle.scr_host.specs.Input.{EndsReading};
 ghost use Rattle.scr_host.specs.Runs.{told_text};
 ghost use Rattle.scr_wcif.specs.Outcome.{Writes};
 
@@ -50,20 +49,7 @@ fn serve<S: Source, O: Sink>(
         (change_of O.held O.faults out.old out.new) (told_text result) }
 {
     let input = read_input(alloc, source)?;
-    write_made(alloc, command, &input, out)
-}
-
-/// Writes what a command makes of an input.
-fn write_made<O: Sink>(
-    alloc: Global,
-    command: Command,
-    input: &[u8],
-    out: &mut O,
-) -> Result<String, Fault>
-    requires { length input.now ≤ most_bytes }
-    ensures { Writes command input.now (change_of O.held O.faults out.old out.new) (told_text result) }
-{
-    let Made { text, told } = made_of(alloc, command, input)?;
+    let Made { text, told } = made_of(alloc, command, &input)?;
     write_all(out, &text)?;
     Ok(told)
 }

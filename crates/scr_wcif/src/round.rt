@@ -1,13 +1,11 @@
 //! The rounds that a file names.
 
-ghost use Rattle.std.specs.Prelude.{◌≡◌, ◌≤◌, ◌++◌, OnOk, string_bytes};
-ghost use Rattle.scr_notation.specs.Event.{usual_of, greatest_of};
+ghost use Rattle.std.specs.Prelude.{◌≡◌, ◌++◌, IfOk, OnOk, string_bytes};
 ghost use Rattle.scr_list.specs.Names.{IsName};
-ghost use Rattle.scr_wcif.specs.FileRounds.{name_of_round};
+ghost use Rattle.scr_wcif.specs.FileRounds.{id_of_round, name_of_round};
 
 use arrayvec::ArrayString;
 use scr_list::{Round, event_named};
-use scr_notation::Event;
 use scr_text::decimal;
 use std::alloc::{AllocError, Global};
 use std::marker::Model;
@@ -39,9 +37,7 @@ impl<'a> Model for FileRound<'a> {
 }
 
 impl<'a> FileRound<'a> {
-    ghost use Rattle.std.specs.Prelude.{IfSome, IfOk};
-    ghost use Rattle.scr_wcif.specs.FileRounds.{id_of_round};
-    ghost use Rattle.scr_wcif.specs.Placing.{is_known};
+    ghost use Rattle.std.specs.Prelude.{IfSome};
     ghost use Rattle.scr_list.specs.Rounds.{IsRound};
     ghost use Rattle.scr_wcif.specs.Listed.{HasUsual, listed_round, left_out_text_of, left_out_line, named_line};
 
@@ -54,29 +50,16 @@ impl<'a> FileRound<'a> {
         let event = event_named(self.event.as_bytes())?;
         let mut name = ArrayString::new();
         name.push_str(self.name);
+        let least = match event.minima() {
+            Some(minima) => minima.usual,
+            None => 0,
+        };
         Some(Round {
             event,
             groups: self.groups,
-            least: usual(event),
+            least,
             name,
         })
-    }
-
-    /// Whether the program has its event.
-    pub(crate) fn is_known(&self) -> bool
-        ensures { result ≡ is_known self.now }
-    {
-        event_named(self.event.as_bytes()).is_some()
-    }
-
-    /// Its id in the file.
-    pub(crate) fn id(&self, alloc: Global) -> Result<String, AllocError>
-        ensures { IfOk result (λ id. string_bytes id ≡ id_of_round self.now.event self.now.number) }
-    {
-        let mut id = String::from_str(alloc, self.event)?;
-        id.push_str("-r")?;
-        id.push_str(decimal(self.number).as_str())?;
-        Ok(id)
     }
 
     /// Tells it behind a text, where the program hasn't its event.
@@ -111,15 +94,14 @@ impl<'a> FileRound<'a> {
     }
 }
 
-/// The usual minimum of an event.
-fn usual(event: Event) -> u8
-    ensures value { result ≡ usual_of event }
-    ensures range { result ≤ greatest_of event }
+/// The id of a round in a file.
+pub(crate) fn id_of_round(alloc: Global, event: &str, number: u32) -> Result<String, AllocError>
+    ensures { IfOk result (λ id. string_bytes id ≡ id_of_round event.now number) }
 {
-    match event.minima() {
-        Some(minima) => minima.usual,
-        None => 0,
-    }
+    let mut id = String::from_str(alloc, event)?;
+    id.push_str("-r")?;
+    id.push_str(decimal(number).as_str())?;
+    Ok(id)
 }
 
 /// How this round of an event is called that has so many, at most four.

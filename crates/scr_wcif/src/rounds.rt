@@ -1,22 +1,21 @@
 //! Which rounds a file names.
 
-ghost use Rattle.std.specs.Prelude.{◌≡◌, [], ◌+◌, ◌-◌, ◌*◌, ◌≤◌, map, length, option_map, IfOk, IfSome, OnOk};
-ghost use Rattle.std.specs.Str.{bytes_eq};
+ghost use Rattle.std.specs.Prelude.{◌≡◌, [], ◌+◌, ◌-◌, ◌*◌, ◌≤◌, map, length, IfOk, IfSome, OnOk};
 ghost use Rattle.json.specs.Value.{value_view, items_view};
 ghost use Rattle.scr_wcif.specs.FileRounds.{id_of_round, group_count, round_of_entry, rounds_of_entries};
-ghost use Rattle.scr_wcif.specs.FileRounds.{is_left_out, is_event, stands_in, event_of_entry, rounds_of_events};
-ghost use Rattle.scr_wcif.specs.FileRounds.{told_event, checked_event, rounds_of_file};
+ghost use Rattle.scr_wcif.specs.FileRounds.{is_left_out, stands_in, event_of_entry, rounds_of_events};
+ghost use Rattle.scr_wcif.specs.FileRounds.{checked_event, rounds_of_file};
 ghost use Rattle.scr_wcif.specs.Adding.{Adds, Gives, event_told, entry_told};
 ghost use Rattle.scr_wcif.specs.declared.fault.FileFault.TheVariants.{Event};
 
 use crate::adding::add;
 use crate::fault::{EventCause, Fault, FileFault, RoundCause};
-use crate::field::{list_at, number_at, text_at};
-use crate::round::{FileRound, name_of_round};
+use crate::field::{list_at, text_at};
+use crate::round::{FileRound, id_of_round, name_of_round};
 use json::Value;
 use scr_list::event_named;
 use scr_text::number_within;
-use std::alloc::{AllocError, Global};
+use std::alloc::Global;
 
 /// An event of a file: its id, and the entries of its rounds.
 #[derive(Clone, Copy)]
@@ -32,14 +31,6 @@ pub fn rounds_of_file<'a>(alloc: Global, file: &Value<'a>) -> Result<Vec<FileRou
     ensures few { IfOk result (λ named. length named.items ≤ 68) }
 {
     let events = list_at(file, "events").ok_or(FileFault::NoCompetition)?;
-    rounds_of_events(alloc, events)
-}
-
-/// The rounds of these events, with none before them.
-fn rounds_of_events<'a>(alloc: Global, events: &[Value<'a>]) -> Result<Vec<FileRound<'a>>, Fault>
-    ensures rounds { Gives (rounds_of_events 1 [] (items_view events.now)) (λ named. named.items) result }
-    ensures few { IfOk result (λ named. length named.items ≤ 68) }
-{
     let mut named = Vec::new(alloc);
     let mut before = Vec::new(alloc);
     push_events(alloc, 1, &mut before, events, &mut named)?;
@@ -92,17 +83,10 @@ fn event_of_entry<'v, 'a>(
     if place > 17 {
         return Err(refused(place, EventCause::Many));
     }
-    let told = told_event(entry).ok_or(refused(place, EventCause::Shape))?;
-    checked_event(place, before, told)
-}
-
-/// The event that an entry tells by its `id` and `rounds`.
-fn told_event<'v, 'a>(entry: &'v Value<'a>) -> Option<EventEntry<'v, 'a>>
-    ensures { option_map entry_told result ≡ told_event (value_view entry.now) }
-{
-    let id = text_at(entry, "id")?;
-    let rounds = list_at(entry, "rounds")?;
-    Some(EventEntry { id, rounds })
+    let shape = refused(place, EventCause::Shape);
+    let id = text_at(entry, "id").ok_or(shape)?;
+    let rounds = list_at(entry, "rounds").ok_or(shape)?;
+    checked_event(place, before, EventEntry { id, rounds })
 }
 
 /// An event of the WCA with at most four rounds, which isn't one of those before it.
@@ -116,7 +100,7 @@ fn checked_event<'v, 'a>(
         ≡ checked_event place (map (λ id. id.now) before.now) (entry_told told.entry) }
     ensures few { IfOk result (λ event. length event.rounds.now ≤ 4) }
 {
-    if !is_event(told.id) {
+    if event_named(told.id.as_bytes()).is_none() && !is_left_out(told.id) {
         return Err(refused(place, EventCause::Unknown));
     }
     if stands_in(before, told.id) {
@@ -136,12 +120,6 @@ fn refused(place: u32, cause: EventCause) -> FileFault
         number: place,
         cause,
     }
-}
-
-fn is_event(id: &str) -> bool
-    ensures { result ≡ is_event id.now }
-{
-    event_named(id.as_bytes()).is_some() || is_left_out(id)
 }
 
 fn is_left_out(id: &str) -> bool
@@ -202,7 +180,8 @@ fn round_of_entry<'a>(
         cause: RoundCause::Id,
     };
     let told = text_at(entry, "id").ok_or(wrong_id)?;
-    if !is_id_of_round(alloc, told, id, number)? {
+    let own = id_of_round(alloc, id, number)?;
+    if told != own.as_str() {
         return Err(Fault::Own(wrong_id));
     }
     let groups = group_count(entry).ok_or(FileFault::Round {
@@ -218,20 +197,12 @@ fn round_of_entry<'a>(
     })
 }
 
-/// Whether a text is the id of a round.
-fn is_id_of_round(alloc: Global, text: &str, id: &str, number: u32) -> Result<bool, AllocError>
-    ensures { IfOk result (λ told. told ≡ bytes_eq text.now (id_of_round id.now number)) }
-{
-    let wanted = format!(in alloc; "{id}-r{number}")?;
-    Ok(text == wanted.as_str())
-}
-
 /// The number of groups that a round has.
 fn group_count(entry: &Value<'_>) -> Option<u8>
     ensures value { result ≡ group_count (value_view entry.now) }
     ensures range { IfSome result (λ groups. (1 ≤ groups) × (groups ≤ 26)) }
 {
-    let text = number_at(entry, "scrambleSetCount")?;
+    let text = entry.get("scrambleSetCount")?.as_number()?;
     let count = number_within(text.as_bytes(), 1, 26)?;
     Some(count as u8)
 }

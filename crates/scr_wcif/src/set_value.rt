@@ -1,7 +1,6 @@
 //! The sets of a round, as a file has them: as a value.
 
-ghost use Rattle.std.specs.Prelude.{◌≡◌, ◌++◌, map, IfOk, OnOk, string_bytes};
-ghost use Rattle.json.specs.Json.{string};
+ghost use Rattle.std.specs.Prelude.{◌≡◌, map, IfOk, string_bytes};
 ghost use Rattle.json.specs.Value.{value_view};
 ghost use Rattle.scr_wcif.specs.Filling.{texts_of, set_of, sets_of};
 
@@ -15,26 +14,11 @@ pub(crate) fn sets_of<'a>(alloc: Global, sets: &'a [ScrambleSet]) -> Result<Valu
     ensures { IfOk result (λ value. value_view value ≡ sets_of sets.now) }
 {
     let mut values = Vec::new(alloc);
-    push_sets(alloc, sets, &mut values)?;
-    Ok(Value::Array(values))
-}
-
-/// Adds the values of these sets. It calls itself once for each.
-fn push_sets<'a>(
-    alloc: Global,
-    sets: &'a [ScrambleSet],
-    values: &mut Vec<Value<'a>>,
-) -> Result<(), AllocError>
-    ensures { OnOk result (map value_view values.new.items ≡ map value_view values.old.items ++ map set_of sets.now) }
-{
-    match sets {
-        [] => Ok(()),
-        [set, rest @ ..] => {
-            let value = set_of(alloc, set)?;
-            add(values, value)?;
-            push_sets(alloc, rest, values)
-        }
+    for set in sets {
+        let value = set_of(alloc, set)?;
+        add(&mut values, value)?;
     }
+    Ok(Value::Array(values))
 }
 
 /// The value of a set.
@@ -55,20 +39,8 @@ fn texts_of<'a>(alloc: Global, texts: &'a [String]) -> Result<Value<'a>, AllocEr
     ensures { IfOk result (λ list. value_view list ≡ texts_of (map string_bytes texts.now)) }
 {
     let mut list = Vec::new(alloc);
-    push_texts(texts, &mut list)?;
-    Ok(Value::Array(list))
-}
-
-/// Adds these texts. It calls itself once for each.
-fn push_texts<'a>(texts: &'a [String], list: &mut Vec<Value<'a>>) -> Result<(), AllocError>
-    ensures { OnOk result
-        (map value_view list.new.items ≡ map value_view list.old.items ++ map string (map string_bytes texts.now)) }
-{
-    match texts {
-        [] => Ok(()),
-        [text, rest @ ..] => {
-            add(list, Value::String(text.as_str()))?;
-            push_texts(rest, list)
-        }
+    for text in texts {
+        add(&mut list, Value::String(text.as_str()))?;
     }
+    Ok(Value::Array(list))
 }

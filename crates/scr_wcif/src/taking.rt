@@ -23,7 +23,12 @@ pub(crate) fn taken_sets(alloc: Global, text: &[u8]) -> Result<Vec<EventSets>, F
 {
     let groups = match SheetGroups::of(text) {
         Ok(groups) => groups,
-        Err(at) => return Err(Fault::Own(FileFault::from(at))),
+        Err(at) => {
+            return Err(Fault::Own(FileFault::SheetLine {
+                line: at.line,
+                cause: at.cause,
+            }));
+        }
     };
     let rounds = gathered(alloc, groups)?;
     Ok(rounds)

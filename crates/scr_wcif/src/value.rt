@@ -10,7 +10,7 @@ ghost use Rattle.std.specs.Prelude.{IfOk};
 
 use crate::fault::{Fault, FileFault};
 use json::{Error, MAX_DEPTH, Reader, Scratch, Value};
-use std::alloc::{AllocError, Global};
+use std::alloc::Global;
 
 /// The JSON value whose text these bytes are, where no object in it has a key twice.
 pub(crate) fn value_of<'a>(
@@ -32,20 +32,16 @@ pub(crate) fn value_of<'a>(
     match Value::parse_strict(alloc, text, scratch) {
         Ok(value) => Ok(value),
         Err(Error::Invalid) => {
-            let place = counted(place_of_fault(alloc, text)?);
+            // No contract says more of where the reader stops.
+            let mut skipping = Scratch::new(alloc);
+            let mut reader = Reader::new(text, &mut skipping)?;
+            let _ = reader.skip_value(MAX_DEPTH);
+            let place = counted(reader.offset());
             Err(Fault::Own(FileFault::NoJson { place }))
         }
         Err(Error::DuplicateKey) => Err(Fault::Own(FileFault::KeyTwice)),
         Err(_) => Err(Fault::NoMemory),
     }
-}
-
-/// At which byte the reader stops in a text that is no JSON. No contract says more of it.
-fn place_of_fault(alloc: Global, text: &str) -> Result<usize, AllocError> {
-    let mut scratch = Scratch::new(alloc);
-    let mut reader = Reader::new(text, &mut scratch)?;
-    let _ = reader.skip_value(MAX_DEPTH);
-    Ok(reader.offset())
 }
 
 /// A place, as far as it fits.

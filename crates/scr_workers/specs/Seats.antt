@@ -1,5 +1,5 @@
 -- Seats at a claim word.
-use Rattle.std.specs.Prelude.{◌≡◌, ℕ, ◌≤◌, []}
+use Rattle.std.specs.Prelude.{◌≡◌, ◌≤◌, []}
 use Rattle.atomic_table.specs.Seated.{TableId}
 use Rattle.atomic_table.specs.declared.shared.Seat.{Seat}
 use Rattle.scr_workers.specs.declared.rule.Claims.{Claims}

@@ -1,10 +1,10 @@
 //! Slots claimed one by one from a shared word.
 
-ghost use Rattle.std.specs.Prelude.{◌≡◌, ℕ, ◌+◌, ◌++◌, ◌^◌, ◌<◌, ◌≤◌, [], length, slice_index_or, vec_capacity, All, map, sum_by};
+ghost use Rattle.std.specs.Prelude.{◌≡◌, ℕ, ◌+◌, ◌^◌, ◌<◌, ◌≤◌, [], length, slice_index_or, All, map, sum_by};
 ghost use Rattle.scr_workers.specs.Answered.{AreAnswered};
 ghost use Rattle.scr_workers.specs.Boards.{IsFresh, IsFreshLane, HasRoom, KeepRoom, lane_count, weight_in, word_of};
 ghost use Rattle.scr_workers.specs.Gather.{HasRun, AreDone, IsDone, IsSeated, without_seat, list_in};
-ghost use Rattle.scr_workers.specs.Rule.{weigh, weigh_below};
+ghost use Rattle.scr_workers.specs.Rule.{weigh};
 
 use crate::board::Board;
 use crate::gate::Gate;
@@ -87,7 +87,7 @@ fn run_lanes<R: Threads + Sync, J: Jobs + Sync, G: Gate + Sync>(
     let slots = out.len() as u32;
     run_workers(rt, table, lanes, jobs, slots, gate);
     let mut seat = join_seats(table, lanes);
-    look(table, &mut seat);
+    table.table.shared.load::<Look>(&mut seat, 0);
     laws::gather(jobs, lanes, out);
     lanes[0].seat = Some(seat);
 }
@@ -116,27 +116,12 @@ fn run_workers<R: Threads + Sync, J: Jobs + Sync, G: Gate + Sync>(
         workers,
         &|_, lane: &mut Lane<J::Out>|
             requires { (slots ≡ J.slots jobs.now) × IsFreshLane table.now.table.shared.table_id slots lane.old }
-        { run_worker(table, lane, jobs, slots, gate) },
+        {
+            if let Some(seat) = lane.seat.take() {
+                lane.seat = Some(laws::work(table, seat, jobs, &mut lane.own, slots, gate));
+            }
+        },
     );
-}
-
-/// Runs one worker: it takes its seat from its lane, works, and puts it back.
-fn run_worker<J: Jobs + Sync, G: Gate + Sync>(
-    table: &ClaimTable,
-    lane: &mut Lane<J::Out>,
-    jobs: &J,
-    slots: u32,
-    gate: &G,
-)
-    requires slots { slots ≡ J.slots jobs.now }
-    requires fresh { IsFreshLane table.now.table.shared.table_id slots lane.old }
-    ensures run { HasRun table.now.table.shared.table_id slots (J.is_answer jobs.now) lane.new }
-    ensures weight { weight_in lane.new.seat ≡ weight_in lane.old.seat }
-    ensures room { vec_capacity lane.new.own ≡ vec_capacity lane.old.own }
-{
-    if let Some(seat) = lane.seat.take() {
-        lane.seat = Some(laws::work(table, seat, jobs, &mut lane.own, slots, gate));
-    }
 }
 
 /// Joins all seats into one, which then has the whole weight.
@@ -152,31 +137,10 @@ fn join_seats<T: Send + Drop>(table: &ClaimTable, lanes: &mut [Lane<T>]) -> Clai
         unreachable!()
     };
     for k in 1..lanes.len() {
-        join_seat_of(table, &mut seat, &mut lanes[k]);
+        let Some(other) = lanes[k].seat.take() else {
+            unreachable!()
+        };
+        table.table.shared.join_seat::<Both>(&mut seat, other);
     }
     seat
-}
-
-/// Joins the seat of a lane to another.
-fn join_seat_of<T: Send + Drop>(table: &ClaimTable, seat: &mut ClaimSeat, lane: &mut Lane<T>)
-    requires table { seat.old.table_id ≡ table.now.table.shared.table_id }
-    requires seated { IsSeated table.now.table.shared.table_id lane.old }
-    ensures table { (seat.new.table_id ≡ seat.old.table_id) × (seat.new.me.1 ≡ seat.old.me.1) }
-    ensures weight { seat.new.me.0.weight ≡ seat.old.me.0.weight + weight_in lane.old.seat }
-    ensures list { seat.new.me.0.list ≡ seat.old.me.0.list ++ list_in lane.old.seat }
-    ensures lane { lane.new ≡ without_seat lane.old }
-{
-    if let Some(other) = lane.seat.take() {
-        table.table.shared.join_seat::<Both>(seat, other);
-    }
-}
-
-/// Loads the word: the seat that has the whole weight has each number below it exactly once.
-fn look(table: &ClaimTable, seat: &mut ClaimSeat)
-    requires table { seat.old.table_id ≡ table.now.table.shared.table_id }
-    requires whole { seat.old.me.0.weight ≡ 64 }
-    ensures same { (seat.new.table_id ≡ seat.old.table_id) × (seat.new.me ≡ seat.old.me) }
-    ensures all { (word : ℕ) × ((h : ℕ → ℕ) → weigh h seat.old.me.0.list ≡ weigh_below h word) }
-{
-    table.table.shared.load::<Look>(seat, 0);
 }

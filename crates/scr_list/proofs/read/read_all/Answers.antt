@@ -1,4 +1,4 @@
-use Rattle.std.proofs.Common.{◌-◌, arith}
+use Rattle.std.proofs.Common.{arith}
 use Rattle.std.proofs.lemmas.Grind.{common_steps}
 use Rattle.scr_outside.proofs.ChangeLemmas.{Gives-append, ends_told-some}
 use Rattle.scr_list.proofs.ReadLemmas.{take-put_mid}

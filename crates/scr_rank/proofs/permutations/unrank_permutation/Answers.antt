@@ -1,4 +1,4 @@
-use Rattle.std.proofs.Common.{◌-◌, rules, arith}
+use Rattle.std.proofs.Common.{rules, arith}
 use Rattle.scr_rank.proofs.PermutationSteps.{unrank_step}
 use Rattle.scr_rank.proofs.permutations.unrank_permutation.Goals as goal
 

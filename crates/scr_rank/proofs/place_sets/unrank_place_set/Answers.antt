@@ -1,4 +1,4 @@
-use Rattle.std.proofs.Common.{◌-◌, arith}
+use Rattle.std.proofs.Common.{arith}
 use Rattle.scr_rank.proofs.PlaceSetSteps.{unranked_start, unranked_next}
 use Rattle.scr_rank.proofs.place_sets.unrank_place_set.Goals as goal
 

@@ -4,7 +4,7 @@ use Rattle.scr_notation.specs.Event.{per_group_of}
 use Rattle.scr_read.specs.Heads.{HeadOf}
 use Rattle.scr_read.specs.Groups.{GroupOf}
 use Rattle.scr_read.proofs.GroupLemmas.{IsScrambleOf, turns_of}
-use Rattle.scr_read.proofs.SlotLemmas.{comes, one_more, ends, each_read, turns_read, left_behind}
+use Rattle.scr_read.proofs.SlotLemmas.{comes, one_more, each_read, turns_read, left_behind}
 use Rattle.scr_read.proofs.groups.read_group.Goals as goal
 
 pub read_slot-requires : goal.read_slot-requires
@@ -22,14 +22,6 @@ loop-slot-preserved c = λ next.
     omega (arith, c.loop-slot-test.true, c.from-count.ensures, c.per_group.ensures.value, own, next.is.each_slot) in
     one_more c.args.head.now.event c.args.pieces.now next c.loop-slot.slot c.loop-slot.pieces c.loop-slot.scrambles (c.loop-slot.invariant next) below
     c.read_slot.result c.read_slot.new.pieces c.read_slot.ensures.pieces c.read_slot.ensures.lines (omega (arith, c.loop-slot-test.true, c.from-count.ensures, c.per_group.ensures.few))
-
-pub read_end-requires : goal.read_end-requires
-read_end-requires c =
-    let next = c.requires.group in
-    let own = ap (λ (h : HeadOf). per_group_of h.event) c.head.view_is in
-    let all : c.loop-slot.slot ≡ per_group_of c.args.head.now.event + 2 =
-    omega (arith, c.loop-slot-test.false, c.loop-slot.auto.slot-end, c.from-count.ensures, c.per_group.ensures.value, own) in
-    (next.behind, ends c.args.head.now.event c.args.pieces.now next c.loop-slot.slot c.loop-slot.pieces c.loop-slot.scrambles (c.loop-slot.invariant next) all)
 
 pub new-requires-clause-scrambles : goal.new-requires-clause-scrambles
 new-requires-clause-scrambles c =
@@ -62,4 +54,4 @@ returns-clause-behind c = λ next.
     let all : c.loop-slot.slot ≡ per_group_of c.args.head.now.event + 2 =
     omega (arith, c.loop-slot-test.false, c.loop-slot.auto.slot-end, c.from-count.ensures, c.per_group.ensures.value, own) in
     left_behind c.args.head.now.event c.args.pieces.now next c.loop-slot.slot c.loop-slot.pieces c.loop-slot.scrambles (c.loop-slot.invariant next) all
-    c.read_end.new.pieces c.read_end.ensures.pieces c.read_end.ensures.lines
+    c.next-end.new.self c.next-end.result c.next-end.ensures

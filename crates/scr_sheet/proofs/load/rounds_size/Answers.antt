@@ -1,27 +1,29 @@
 use Rattle.std.proofs.Common.{arith}
 use Rattle.std.proofs.lemmas.Result.{err_from_is_err_and}
+use Rattle.scr_sheet.proofs.PartLaws.{IsPartText-made}
 use Rattle.scr_sheet.proofs.RoomLaws.{room-first, room-one, room-fits, room-next}
 use Rattle.scr_sheet.proofs.SizeLaws.{sized-none, sized-more, sized-fault}
 use Rattle.scr_sheet.proofs.load.rounds_size.Goals as goal
 
-pub returns-in_err-more : goal.returns-in_err-more
-returns-in_err-more g c =
+pub returns-in_err-make_in_room : goal.returns-in_err-make_in_room
+returns-in_err-make_in_room g c =
     let p = err_from_is_err_and c.from_residual.result c.from_residual.ensures.1 in
     rw (p.1, p.2)
     (sized-fault c.args.rounds.now c.loop-index.index c.index-rounds-index.result c.index-rounds-index.is _ c.loop-index-test.true
-    c.loop-index.invariant.sized c.in_err-more.ensures.size)
+    c.loop-index.invariant.sized c.in_err-make_in_room.ensures.made)
 
 pub loop-index-preserved : goal.loop-index-preserved
-loop-index-preserved g c = record {
-  sized =
-      sized-more c.args.rounds.now c.loop-index.index c.index-rounds-index.result c.index-rounds-index.is c.loop-index-test.true
-      c.loop-index.invariant.sized c.in_ok-more.ensures.size;
-  few = omega (arith, c.loop-index.invariant.few, c.in_ok-more.ensures.few);
-  low = omega (arith, c.loop-index.invariant.low, c.in_ok-more.ensures.low);
-  room =
-      room-next c.args.rounds.now c.loop-index.index c.loop-index.room c.size_in_room.new.room c.loop-index.invariant.room
-      c.loop-index-test.true c.in_ok-more.ensures.room;
-}
+loop-index-preserved g c =
+    record {
+      sized =
+          sized-more c.args.rounds.now c.loop-index.index c.index-rounds-index.result c.index-rounds-index.is c.loop-index-test.true
+          c.loop-index.invariant.sized (record { text = _; is = IsPartText-made {settings = c.args.making.now.settings} c.loop-index.index c.index-rounds-index.result (rw c.deref.ensures.value c.in_ok-make_in_room.ensures.made); amounts = c.round_size-more.ensures.size });
+      few = omega (arith, c.loop-index.invariant.few, c.round_size-more.ensures.few);
+      low = omega (arith, c.loop-index.invariant.low, c.round_size-more.ensures.low);
+      room =
+          room-next c.args.rounds.now c.loop-index.index c.loop-index.room c.make_in_room.new.room c.loop-index.invariant.room
+          c.loop-index-test.true c.in_ok-make_in_room.ensures.room;
+    }
 
 pub loop-index-init : goal.loop-index-init
 loop-index-init g c = record {
@@ -31,11 +33,11 @@ loop-index-init g c = record {
   room = room-first c.args.rounds.now c.args.room.now c.requires.room;
 }
 
-pub size_in_room-requires-clause-room : goal.size_in_room-requires-clause-room
-size_in_room-requires-clause-room g c κs within =
+pub make_in_room-requires-clause-room : goal.make_in_room-requires-clause-room
+make_in_room-requires-clause-room g c κs within =
     room-one c.args.rounds.now c.loop-index.index c.loop-index.room c.loop-index.invariant.room c.loop-index-test.true
 
-pub size_in_room-requires-clause-slots : goal.size_in_room-requires-clause-slots
-size_in_room-requires-clause-slots g c κs within =
+pub make_in_room-requires-clause-slots : goal.make_in_room-requires-clause-slots
+make_in_room-requires-clause-slots g c κs within =
     room-fits c.args.rounds.now c.loop-index.index c.loop-index.room c.index-rounds-index.result c.loop-index.invariant.room c.loop-index-test.true
     c.index-rounds-index.is

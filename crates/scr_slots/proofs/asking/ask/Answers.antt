@@ -1,27 +1,50 @@
-use Rattle.std.proofs.Common.{◌≡◌, Bool, List, Option, Some, None, refl, sym, subst}
-use Rattle.std.specs.Prelude.{IfSome, IsTrue}
-use Rattle.scr_notation.specs.declared.event.Event.{Event}
-use Rattle.scr_notation.specs.declared.event.Family.{Family}
-use Rattle.scr_notation.specs.Event.{family_of, puzzle_of, puzzle_row_of}
-use Rattle.scr_notation.specs.EventSets.{Has}
-use Rattle.scr_slots.specs.Families.{HasFamily, HasTablesOf}
+use Rattle.scr_slots.specs.Events.{promised_as, scrambled_as}
 use Rattle.scr_slots.proofs.asking.ask.Goals as goal
 
-by-family : (events : List Bool) (event : Event) → Has events event → (family : Option Family) → family_of event ≡ family
-    → IfSome family (HasFamily events)
-by-family events event has None of = tt
-by-family events event has (Some family) of = record { event = event; has = has; of_family = of }
+pub returns-in-Cube222 : goal.returns-in-Cube222
+unfolding promised_as scrambled_as
+returns-in-Cube222 g c = rw c.in-Cube222.is c.of_states.ensures
 
-has-tables : (events : List Bool) (event : Event) → Has events event → HasTablesOf events (puzzle_of event)
-has-tables events event has = by-family events event has (family_of event) refl
+pub returns-in-Cube333 : goal.returns-in-Cube333
+unfolding promised_as scrambled_as
+returns-in-Cube333 g c = rw c.in-Cube333.is c.of_states-in-Cube333.ensures
 
-pub ask_puzzle-requires-clause-tested : goal.ask_puzzle-requires-clause-tested
-ask_puzzle-requires-clause-tested g c = λ tested.
-    subst (HasTablesOf c.args.tables.now) (sym c.puzzle.ensures)
-    (has-tables c.args.tables.now c.args.event
-    (c.requires.tested (subst (λ p. IsTrue (puzzle_row_of p).tested_by_table) c.puzzle.ensures tested)))
+pub returns-in-Held333 : goal.returns-in-Held333
+unfolding promised_as scrambled_as
+returns-in-Held333 g c = rw c.in-Held333.is c.of_states-in-Held333.ensures
 
-pub ask_puzzle-requires-clause-solver : goal.ask_puzzle-requires-clause-solver
-ask_puzzle-requires-clause-solver g c = λ needs.
-    subst (HasTablesOf c.args.tables.now) (sym c.puzzle.ensures)
-    (has-tables c.args.tables.now c.args.event (c.requires.solver needs))
+pub returns-in-Fewest333 : goal.returns-in-Fewest333
+unfolding promised_as scrambled_as
+returns-in-Fewest333 g c = rw c.in-Fewest333.is c.of_states-in-Fewest333.ensures
+
+pub returns-in-Cube555 : goal.returns-in-Cube555
+unfolding promised_as scrambled_as
+returns-in-Cube555 g c = rw c.in-Cube555.is c.of_moves.ensures
+
+pub returns-in-Cube666 : goal.returns-in-Cube666
+unfolding promised_as scrambled_as
+returns-in-Cube666 g c = rw c.in-Cube666.is c.of_moves-in-Cube666.ensures
+
+pub returns-in-Cube777 : goal.returns-in-Cube777
+unfolding promised_as scrambled_as
+returns-in-Cube777 g c = rw c.in-Cube777.is c.of_moves-in-Cube777.ensures
+
+pub returns-in-Clock : goal.returns-in-Clock
+unfolding promised_as scrambled_as
+returns-in-Clock g c = rw c.in-Clock.is c.of_states-in-Clock.ensures
+
+pub returns-in-Megaminx : goal.returns-in-Megaminx
+unfolding promised_as scrambled_as
+returns-in-Megaminx g c = rw c.in-Megaminx.is c.of_moves-in-Megaminx.ensures
+
+pub returns-in-Pyraminx : goal.returns-in-Pyraminx
+unfolding promised_as scrambled_as
+returns-in-Pyraminx g c = rw c.in-Pyraminx.is c.of_states-in-Pyraminx.ensures
+
+pub returns-in-Skewb : goal.returns-in-Skewb
+unfolding promised_as scrambled_as
+returns-in-Skewb g c = rw c.in-Skewb.is c.of_states-in-Skewb.ensures
+
+pub returns-in-Square1 : goal.returns-in-Square1
+unfolding promised_as scrambled_as
+returns-in-Square1 g c = rw c.in-Square1.is c.of_states-in-Square1.ensures

@@ -3,9 +3,10 @@ use Rattle.std.specs.Prelude.{is_some}
 use Rattle.std.proofs.lemmas.List.{length-map}
 use Rattle.scr_notation.specs.declared.turn.Turn.{Turn}
 use Rattle.scr_notation.specs.TurnNumbers.{face_turn_at}
+use Rattle.scr_notation.proofs.OppositeLaws.{length-back}
 use Rattle.scr_cube.specs.Cube333.{CubeState}
 use Rattle.scr_twophase.specs.TwoParts.{two_parts}
-use Rattle.scr_twophase.proofs.PartLaws.{IsScrambleBy, length-back, two_parts-joined}
+use Rattle.scr_twophase.proofs.PartLaws.{IsScrambleBy, two_parts-joined}
 use Rattle.scr_solver_laws.proofs.twophase.few_turns.Goals as goal
 
 -- the two parts have few turns

@@ -9,7 +9,7 @@ use Rattle.scr_notation.specs.Written.{Written}
 use Rattle.scr_sq1.specs.Units.{solved_sq1, sq1_after}
 use Rattle.scr_sq1solve.specs.Counts.{twists_in}
 use Rattle.scr_sq1tables.specs.ShapeWords.{is_shape_word}
-use Rattle.scr_notation.proofs.TidyingLaws.{length-back}
+use Rattle.scr_notation.proofs.OppositeLaws.{length-back}
 use Rattle.scr_sq1solve.proofs.Lengths.{twists-back}
 use Rattle.scr_sq1solve.proofs.TotalLaws.{play-total_back}
 use Rattle.scr_sq1solve.specs.ShortScrambles.{IsShortest, IsShortScramble}
@@ -18,14 +18,14 @@ use Rattle.scr_sq1solve.proofs.short.scramble_sq1_short.Goals as goal
 use Rattle.scr_sq1solve.proofs.short.scramble_sq1_short.Goals.{then-is_shorter, else-is_shorter}
 
 -- each word that is looked at is a short shape word
-pub total_from-total-requires-clause-shape_word : goal.total_from-total-requires-clause-shape_word
-total_from-total-requires-clause-shape_word c =
+pub total_of-total-requires-clause-shape_word : goal.total_of-total-requires-clause-shape_word
+total_of-total-requires-clause-shape_word c =
     let inside : c.loop-place.place < length c.shape_words-words.result = omega (arith, c.loop-place-test.true, c.len-place-end.ensures.count) in
     subst (λ word. IsTrue (is_shape_word c.args.state.now word)) (sym c.word-in-loop-place.ensures.word)
     (c.shape_words-words.ensures.each c.loop-place.place [] inside)
 
-pub total_from-total-requires-clause-short : goal.total_from-total-requires-clause-short
-total_from-total-requires-clause-short c =
+pub total_of-total-requires-clause-short : goal.total_of-total-requires-clause-short
+total_of-total-requires-clause-short c =
     let inside : c.loop-place.place < length c.shape_words-words.result = omega (arith, c.loop-place-test.true, c.len-place-end.ensures.count) in
     omega (arith, ap length c.word-in-loop-place.ensures.word, c.shape_words-words.ensures.short c.loop-place.place [] inside)
 
@@ -33,9 +33,9 @@ pub loop-place-init : goal.loop-place-init
 loop-place-init c =
     let first = c.shape_words-words.ensures.first (omega (arith, c.requires.short.0)) in
     let words = c.shape_words-words.result in
-    let total = c.total_from-least.ensures in
+    let total = c.total_of-least.ensures in
     IsLeast-begun c.args.state.now words 0 c.word.result.now (slice_get_within words 0 first.0 first.2) c.word.ensures.word
-    c.total_from-least.result total.total total.event total.within refl
+    c.total_of-least.result total.total total.event total.within refl
 
 pub loop-place-preserved : goal.loop-place-preserved
 loop-place-preserved c =
@@ -43,7 +43,7 @@ loop-place-preserved c =
     let words = c.shape_words-words.result in
     let place = c.loop-place.place in
     let word = c.word-in-loop-place in
-    let total = c.total_from-total in
+    let total = c.total_of-total in
     let before = c.loop-place in
     let inside : place < length words = omega (arith, c.loop-place-test.true, c.len-place-end.ensures.count) in
     elim c.if-is_shorter.branch [
@@ -57,31 +57,28 @@ loop-place-preserved c =
           before.least before.invariant (omega (arith, w.if-is_shorter.false, c.twist_count.ensures, c.twist_count-in-loop-place.ensures)))
     ]
 
-pub inverse-requires : goal.inverse-requires
-inverse-requires c = λ clock. let event = c.loop-place.invariant.event in cc
-
 -- all words are looked at
-whole : (c : goal.After-inverse) → take c.loop-place.place c.shape_words-words.result ≡ c.shape_words-words.result
+whole : (c : goal.After-taken_back) → take c.loop-place.place c.shape_words-words.result ≡ c.shape_words-words.result
 whole c =
     take_all c.loop-place.place c.shape_words-words.result (omega (arith, c.loop-place-test.false, c.len-place-end.ensures.count))
 
-made : (c : goal.After-inverse) → c.inverse.result.turns ≡ back opposite c.loop-place.least.turns
-made c = ap (λ (w : Written). w.turns) c.inverse.ensures.value
+made : (c : goal.After-taken_back) → c.taken_back.result.turns ≡ back opposite c.loop-place.least.turns
+made c = ap (λ (w : Written). w.turns) c.taken_back.ensures
 
 pub returns-clause-the_scramble : goal.returns-clause-the_scramble
 returns-clause-the_scramble c =
     let s = c.args.state.now in
     let least = c.loop-place.least in
     let h = c.loop-place.invariant in
-    let is : IsShortScramble c.args.short s c.inverse.result.turns = record {
+    let is : IsShortScramble c.args.short s c.taken_back.result.turns = record {
       total = least.turns;
       shortest = subst (λ words. IsShortest s words least.turns) (whole c ∙ c.shape_words-words.ensures.words) h.shortest;
       taken_back = made c;
     } in
     record {
-      of_event = ap (λ (w : Written). w.event) c.inverse.ensures.value ∙ h.event;
+      of_event = ap (λ (w : Written). w.event) c.taken_back.ensures ∙ h.event;
       scramble = is;
-      only = λ turns other. IsShortScramble-unique c.args.short s turns c.inverse.result.turns other is;
+      only = λ turns other. IsShortScramble-unique c.args.short s turns c.taken_back.result.turns other is;
       within = record {
         twists = omega (arith, ap twists_in (made c), twists-back least.turns, h.within.twists);
         turns = omega (arith, ap length (made c), length-back least.turns, h.within.turns);

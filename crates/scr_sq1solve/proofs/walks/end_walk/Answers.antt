@@ -20,7 +20,7 @@ returns-then-is_ended-clause-walk c =
     let n = c.loop-number.number in
     let end = c.in-Some.end in
     let written = ap (λ (w : Written). w.turns) c.letter-turns.ensures in
-    let played : play sq1_after s (letter_of letters n) ≡ Some end = sym (c.play.ensures ∙ ap (play sq1_after s) written) ∙ c.in-Some.is in
+    let played : play sq1_after s (letter_of letters n) ≡ Some end = sym (c.after_word.ensures ∙ ap (play sq1_after s) written) ∙ c.in-Some.is in
     let below : n < (stage_of letters).letters = omega (arith, c.loop-number-test.true, c.letter_count-number-end.ensures.value) in
     let ends : Ends sq1_after (stage_of letters) s n end =
     record { below = below; played = played; goal = c.is_ended.ensures.0 c.if-is_ended.true } in

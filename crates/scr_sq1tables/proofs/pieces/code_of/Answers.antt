@@ -14,8 +14,5 @@ places_below xs p = subst (λ n. All (λ k. k < n) smaller) (sym p.size) (All-fr
 standing_below : (xs ys : List ℕ) → IsPermutation 8 xs → ys ≡ pick xs smaller → All (λ piece. piece < 8) ys
 standing_below xs ys p is = subst (All (λ piece. piece < 8)) (sym is) (All-pick (λ piece. piece < 8) xs smaller (All-permutation 8 xs p) (places_below xs p))
 
-pub bits_of-requires : goal.bits_of-requires
-bits_of-requires c = standing_below c.args.pieces.now _ c.requires c.pick_into.ensures
-
-pub pairs_of-requires : goal.pairs_of-requires
-pairs_of-requires c = standing_below c.args.pieces.now _ c.requires c.pick_into.ensures
+pub pick_into-requires-2-clause-places : goal.pick_into-requires-2-clause-places
+pick_into-requires-2-clause-places c = standing_below c.args.pieces.now _ c.requires c.pick_into.ensures

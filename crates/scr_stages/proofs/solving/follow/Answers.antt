@@ -1,11 +1,9 @@
 use Rattle.std.proofs.Common.{[], ◌∷◌, ◌++◌, get_or, length, take, sym, ap, ◌∙◌, arith}
 use Rattle.std.specs.Prelude.{option_and_then}
-use Rattle.std.proofs.lemmas.List.{append-nil, flat_map_more, length-append, take_more}
+use Rattle.std.proofs.lemmas.List.{flat_map_more, length-append, take_more}
 use Rattle.std.proofs.lemmas.Option.{slice_get-get_or}
 use Rattle.scr_combinatorics.specs.Stages.{spelled}
-use Rattle.scr_combinatorics.proofs.PlayLaws.{play-empty}
-use Rattle.scr_combinatorics.proofs.StepLaws.{play-more, play-whole}
-use Rattle.scr_orbit.proofs.Parts.{ap_both}
+use Rattle.scr_combinatorics.proofs.StepLaws.{play-more}
 use Rattle.scr_orbit.specs.PowerPuzzles.{after_letter}
 use Rattle.scr_notation.specs.declared.event.Event.TheVariants.{C333}
 use Rattle.scr_notation.specs.Event.{kind_of}
@@ -16,12 +14,6 @@ use Rattle.scr_cube.specs.Cube333.{cube_powers}
 use Rattle.scr_cube.specs.ListedTurns.{letter_in, after_of}
 use Rattle.scr_cube.proofs.ListedTurns.{after_of-is}
 use Rattle.scr_stages.proofs.solving.follow.Goals as goal
-
-pub loop-at-init : goal.loop-at-init
-loop-at-init c =
-    let turns = c.args.solution.now.turns in
-    let written = ap_both {C = Written} (λ e ts. record { event = e; turns = ts }) c.requires.event (sym (append-nil turns)) in
-    record { played = play-empty (after_of c.args.turns.now) c.args.cube.now; written = written; longer = omega arith }
 
 pub loop-at-preserved : goal.loop-at-preserved
 loop-at-preserved c =
@@ -39,7 +31,7 @@ loop-at-preserved c =
           ∙ ap (option_and_then (λ t. (after_letter cube_powers) c.loop-at.state (face_turn_at t))) (slice_get-get_or turns (get_or word at 0) 0 (c.requires.word at 0 lt))
           ∙ ap (λ t. (after_letter cube_powers) c.loop-at.state (face_turn_at t)) (sym number)
           ∙ c.turned-state.ensures;
-      written = c.push_numbered.ensures
+      written = c.push.ensures
           ∙ ap {B = Written} (λ s. record { event = s.event; turns = s.turns ++ turn_at (kind_of s.event) (get_or turns c.from.result 0) ∷ [] }) c.loop-at.invariant.written
           ∙ ap {B = Written} (λ l. record { event = C333; turns = (before ++ spelled (letter_in turns) (take at word)) ++ l ∷ [] }) letter
           ∙ ap {B = Written} (λ ts. record { event = C333; turns = ts })
@@ -47,13 +39,8 @@ loop-at-preserved c =
           ∙ ap (λ w. before ++ spelled (letter_in turns) w) (sym (take_more word at 0 lt)));
       longer = omega (
         arith,
-        ap (λ s. length s.turns) c.push_numbered.ensures,
+        ap (λ s. length s.turns) c.push.ensures,
         length-append c.loop-at.solution.turns (turn_at (kind_of c.loop-at.solution.event) (get_or turns c.from.result 0) ∷ []),
         c.loop-at.invariant.longer,
       );
     }
-
-pub returns-clause-played : goal.returns-clause-played
-returns-clause-played c =
-    play-whole (after_of c.args.turns.now) c.args.cube.now c.loop-at.state c.args.word.now c.loop-at.at c.loop-at.invariant.played
-    (omega (arith, c.loop-at-test.false))

@@ -8,10 +8,10 @@ use Rattle.scr_stages.proofs.solving.scramble_by_stages.Goals as goal
 pub returns : goal.returns
 returns c =
     let cube = c.args.cube.now in
-    let turns = c.inverse.result.turns in
-    let solved = c.solve_stages in
-    let tidied = c.tidy.ensures.value in
-    let inverted = c.inverse.ensures.value in
+    let turns = c.taken_back.result.turns in
+    let solved = c.stage_words in
+    let tidied = c.tidied.ensures.value in
+    let inverted = c.taken_back.ensures in
     let is : IsStageScramble cube turns = record {
       solution = solved.result.turns;
       is = solved.ensures.solution;

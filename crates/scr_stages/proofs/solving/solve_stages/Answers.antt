@@ -1,78 +1,22 @@
-use Rattle.std.proofs.Common.{◌≡◌, ℕ, List, [], ◌∷◌, ◌++◌, Some, refl, sym, ap, ◌∙◌}
-use Rattle.std.proofs.lemmas.List.{append_assoc, append-nil}
-use Rattle.scr_combinatorics.specs.Play.{play}
-use Rattle.scr_combinatorics.specs.Stages.{Stage, by_letters, IsStageWord, IsSolution, spelled}
-use Rattle.scr_combinatorics.proofs.StageLaws.{All-stage_word, stage_goal, IsSolution-unique, solution_step}
+use Rattle.std.proofs.Common.{sym, ap, subst, ◌∙◌}
+use Rattle.scr_combinatorics.specs.Stages.{IsSolution}
+use Rattle.scr_combinatorics.proofs.StageLaws.{IsSolution-unique}
 use Rattle.scr_orbit.specs.PowerPuzzles.{after_letter}
-use Rattle.scr_notation.specs.declared.turn.Turn.{Turn}
-use Rattle.scr_cube.specs.Cube333.{CubeState, cube_powers}
-use Rattle.scr_stages.specs.Stages.{stages, flips_stage, slice_stage, tetrads_stage, halves_stage}
-use Rattle.scr_stages.proofs.HalfTurned.{IsHalfCube-half_turned}
+use Rattle.scr_notation.specs.Written.{Written}
+use Rattle.scr_cube.specs.Cube333.{cube_powers}
+use Rattle.scr_stages.specs.Stages.{stages}
 use Rattle.scr_stages.proofs.SolutionLaws.{solution-at_most, solution-played}
 use Rattle.scr_stages.proofs.solving.solve_stages.Goals as goal
 
-four_joined : {X : Type 0} (a b c d : List X) → (((([] ++ a) ++ b) ++ c) ++ d) ≡ a ++ (b ++ (c ++ (d ++ [])))
-four_joined a b c d =
-    append_assoc (a ++ b) c d ∙ append_assoc a b (c ++ d) ∙ ap (λ xs. a ++ (b ++ (c ++ xs))) (sym (append-nil d))
-
-pub follow-unflipped-requires-clause-word : goal.follow-unflipped-requires-clause-word
-follow-unflipped-requires-clause-word c =
-    rw c.deref.ensures.0 (All-stage_word (after_letter cube_powers) flips_stage _ _ c.flips_word-word.ensures.word)
-
-pub follow-domino-requires-clause-word : goal.follow-domino-requires-clause-word
-follow-domino-requires-clause-word c =
-    rw c.deref-2.ensures.0 (All-stage_word (after_letter cube_powers) slice_stage _ _ c.slice_word-word.ensures)
-
-pub follow-half_turned-requires-clause-word : goal.follow-half_turned-requires-clause-word
-follow-half_turned-requires-clause-word c =
-    rw c.deref-3.ensures.0 (All-stage_word (after_letter cube_powers) tetrads_stage _ _ c.tetrads_word-word.ensures)
-
-pub halves_word-word-requires : goal.halves_word-word-requires
-halves_word-word-requires c =
-    let is = rw (← c.deref-3.ensures.0) at c.tetrads_word-word.ensures in
-    IsHalfCube-half_turned c.follow-half_turned.result (stage_goal (after_letter cube_powers) tetrads_stage _ _ _ is c.follow-half_turned.ensures.played)
-
-pub follow-requires-clause-word : goal.follow-requires-clause-word
-follow-requires-clause-word c =
-    rw c.deref-4.ensures.0 (All-stage_word (after_letter cube_powers) halves_stage _ _ c.halves_word-word.ensures)
-
--- a word of the first stage, before a solution by the others
-before : (stage : Stage CubeState Turn) (rest : List (Stage CubeState Turn)) (c d : CubeState) (word : List ℕ)
-    → IsStageWord (after_letter cube_powers) stage c word
-    → play (by_letters (after_letter cube_powers) stage.letters stage.letter) c word ≡ Some d
-    → (s : List Turn) × IsSolution (after_letter cube_powers) rest d s
-    → (s : List Turn) × IsSolution (after_letter cube_powers) (stage ∷ rest) c s
-before stage rest c d word is played more =
-    (spelled stage.letter word ++ more.0, solution_step (after_letter cube_powers) stage c d word is played rest more.0 more.1)
-
-pub returns-clause-solution : goal.returns-clause-solution
-unfolding before
-returns-clause-solution c =
-    let halves = before halves_stage [] _ _ _ (rw (← c.deref-4.ensures.0) at c.halves_word-word.ensures) c.follow.ensures.played ([], refl) in
-    let tetrads =
-    before tetrads_stage (halves_stage ∷ []) _ _ _ (rw (← c.deref-3.ensures.0) at c.tetrads_word-word.ensures) c.follow-half_turned.ensures.played halves in
-    let slice =
-    before slice_stage (tetrads_stage ∷ halves_stage ∷ []) _ _ _ (rw (← c.deref-2.ensures.0) at c.slice_word-word.ensures) c.follow-domino.ensures.played tetrads in
-    let flips =
-    before flips_stage (slice_stage ∷ tetrads_stage ∷ halves_stage ∷ []) _ _ _ (rw (← c.deref.ensures.0) at c.flips_word-word.ensures.word)
-    c.follow-unflipped.ensures.played slice in
-    let joined = four_joined (spelled flips_stage.letter c.deref.result.now) (spelled slice_stage.letter c.deref-2.result.now)
-    (spelled tetrads_stage.letter c.deref-3.result.now) (spelled halves_stage.letter c.deref-4.result.now) in
-    rw (
-      c.follow.ensures.written,
-      c.follow-half_turned.ensures.written,
-      c.follow-domino.ensures.written,
-      c.follow-unflipped.ensures.written,
-      c.new-solution.ensures.value,
-      joined,
-    )
-    flips.1
-
-pub returns-clause-only : goal.returns-clause-only
-returns-clause-only c = λ turns other. IsSolution-unique (after_letter cube_powers) stages c.args.cube.now turns c.follow.new.solution.turns other (returns-clause-solution c)
-
-pub returns-clause-played : goal.returns-clause-played
-returns-clause-played c = solution-played c.args.cube.now c.follow.new.solution.turns (returns-clause-solution c)
-
-pub returns-clause-at_most : goal.returns-clause-at_most
-returns-clause-at_most c = solution-at_most c.args.cube.now c.follow.new.solution.turns (returns-clause-solution c)
+pub returns : goal.returns
+returns c =
+    let solution : IsSolution (after_letter cube_powers) stages c.args.cube.now c.scramble.result.turns =
+    subst (λ (w : Written). IsSolution (after_letter cube_powers) stages c.args.cube.now w.turns) (sym c.scramble.ensures) c.stage_words.ensures.solution in
+    record {
+      event = ap (λ (w : Written). w.event) c.scramble.ensures ∙ c.stage_words.ensures.event;
+      at_most = solution-at_most c.args.cube.now c.scramble.result.turns solution;
+      solution = solution;
+      only = λ turns other. IsSolution-unique (after_letter cube_powers) stages c.args.cube.now turns c.scramble.result.turns other solution;
+      played = solution-played c.args.cube.now c.scramble.result.turns solution;
+      valid = c.stage_words.ensures.valid;
+    }

@@ -1,19 +1,12 @@
-use Rattle.std.proofs.Common.{lit<, lit≤}
+use Rattle.std.proofs.Common.{lit≤}
 use Rattle.scr_table.proofs.StageLaws.{IsStageWord-first}
 use Rattle.scr_orbit.specs.PowerPuzzles.{after_letter}
 use Rattle.scr_cube.specs.Cube333.{cube_powers}
 use Rattle.scr_stages.specs.Stages.{slice_stage}
 use Rattle.scr_stages.specs.Numbers.{slice_number, IsUnflippedCube}
 use Rattle.scr_stages.specs.Tables.{slice_line}
-use Rattle.scr_stages.proofs.StageSpaces.{Follows-unflipped, IsPlaceSet-middle_places}
+use Rattle.scr_stages.proofs.StageSpaces.{Follows-unflipped}
 use Rattle.scr_stages.proofs.words.slice_word.Goals as goal
-
-pub places_of-requires-clause-fits : goal.places_of-requires-clause-fits
-places_of-requires-clause-fits c = rw c.edges.ensures.same (IsPlaceSet-middle_places c.args.cube.now c.requires.cube).size
-
-pub rank-places-requires : goal.rank-places-requires
-rank-places-requires c =
-    (lit< tt, (lit≤ tt, rw (c.places_of.ensures, c.edges.ensures.same) (IsPlaceSet-middle_places c.args.cube.now c.requires.cube)))
 
 pub returns : goal.returns
 returns c =

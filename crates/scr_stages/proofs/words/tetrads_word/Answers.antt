@@ -1,20 +1,12 @@
-use Rattle.std.proofs.Common.{lit<, lit≤}
+use Rattle.std.proofs.Common.{lit≤}
 use Rattle.scr_table.proofs.StageLaws.{IsStageWord-first}
 use Rattle.scr_orbit.specs.PowerPuzzles.{after_letter}
 use Rattle.scr_cube.specs.Cube333.{cube_powers}
 use Rattle.scr_stages.specs.Stages.{tetrads_stage}
 use Rattle.scr_stages.specs.Numbers.{tetrads_number, IsDominoCube}
 use Rattle.scr_stages.specs.Tables.{tetrads_line}
-use Rattle.scr_stages.proofs.DominoLaws.{IsPlaceSet-first_places}
 use Rattle.scr_stages.proofs.StageWords.{Follows-half_turned}
 use Rattle.scr_stages.proofs.words.tetrads_word.Goals as goal
-
-pub places_of-requires-clause-fits : goal.places_of-requires-clause-fits
-places_of-requires-clause-fits c = rw c.edges.ensures.same (IsPlaceSet-first_places c.args.cube.now c.requires).size
-
-pub rank-places-requires : goal.rank-places-requires
-rank-places-requires c =
-    (lit< tt, (lit≤ tt, rw (c.places_of.ensures, c.edges.ensures.same) (IsPlaceSet-first_places c.args.cube.now c.requires)))
 
 pub returns : goal.returns
 returns c =

@@ -4,4 +4,4 @@ use Rattle.scr_twophase.proofs.fewest.frame.Goals as goal
 
 pub returns : goal.returns
 unfolding frame turn_at face_turn_at
-returns c = c.numbered_scramble.ensures
+returns c = c.of.ensures

@@ -14,14 +14,14 @@ use Rattle.scr_twophase.proofs.fewest.scramble_333fm.Goals as goal
 pub unreachable-requires : goal.unreachable-requires
 unreachable-requires c =
     c.in_default.not-Some frame_back
-    (frame_back-made c.solved.result c.frame.result.turns c.inverse.result.turns c.play.result c.solved.ensures
-    (ap (λ (w : Written). w.turns) c.frame.ensures) (ap (λ (w : Written). w.turns) c.inverse.ensures.value) c.play.ensures)
+    (frame_back-made c.solved.result c.frame.result.turns c.taken_back.result.turns c.play.result c.solved.ensures
+    (ap (λ (w : Written). w.turns) c.frame.ensures) (ap (λ (w : Written). w.turns) c.taken_back.ensures) c.play.ensures)
 
 -- the cube that is scrambled is the one between
 is_between : (c : goal.After-framed) → c.then-between.result ≡ between c.args.cube.now
 is_between c =
-    let back = frame_back-made c.solved.result c.frame.result.turns c.inverse.result.turns c.play.result c.solved.ensures
-    (ap (λ (w : Written). w.turns) c.frame.ensures) (ap (λ (w : Written). w.turns) c.inverse.ensures.value) c.play.ensures in
+    let back = frame_back-made c.solved.result c.frame.result.turns c.taken_back.result.turns c.play.result c.solved.ensures
+    (ap (λ (w : Written). w.turns) c.frame.ensures) (ap (λ (w : Written). w.turns) c.taken_back.ensures) c.play.ensures in
     between-made c.args.cube.now c.in-Some.back c.then.result c.then-between.result
     (same_Some c.in-Some.back frame_back (sym c.in-Some.is ∙ back)) c.then.ensures.joined c.then-between.ensures.joined
 

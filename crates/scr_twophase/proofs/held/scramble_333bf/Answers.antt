@@ -3,7 +3,6 @@ use Rattle.std.specs.Prelude.{◌++◌, is_some}
 use Rattle.scr_combinatorics.specs.Back.{back}
 use Rattle.scr_combinatorics.specs.Play.{play}
 use Rattle.scr_notation.specs.declared.event.Event.{Event}
-use Rattle.scr_notation.specs.declared.event.Event.TheVariants.{Bf333, Clock}
 use Rattle.scr_notation.specs.Turning.{opposite}
 use Rattle.scr_notation.specs.Turns.{permits}
 use Rattle.scr_notation.specs.Written.{Written}
@@ -16,16 +15,13 @@ use Rattle.scr_twophase.specs.TwoParts.{two_parts, IsScramble333}
 use Rattle.scr_twophase.proofs.HeldScrambles.{joined-played, IsScramble333bf-unique, permits-held}
 use Rattle.scr_twophase.proofs.held.scramble_333bf.Goals as goal
 
-pub inverse-requires : goal.inverse-requires
-inverse-requires c = λ e. let two : Bf333 ≡ Clock = sym (ap (λ (s : Written). s.event) c.word_of_hold-word.ensures) ∙ e in cc
-
 -- the word taken back leads somewhere
 pub unreachable-requires : goal.unreachable-requires
 unreachable-requires c =
     let s = c.args.held.now in
     let some = before-some s c.hold.ensures.valid in
     let word = ap (λ (w : Written). w.turns) c.word_of_hold-word.ensures ∙ ap hold_word c.hold.ensures.number in
-    let turns = ap (λ (w : Written). w.turns) c.inverse.ensures.value ∙ ap (back opposite) word in
+    let turns = ap (λ (w : Written). w.turns) c.taken_back.ensures ∙ ap (back opposite) word in
     let none = c.in_default.ensures ∙ ap (play held_cube_after s) turns ∙ some.1 in
     cc
 
@@ -45,6 +41,7 @@ push_all-requires-clause-room c =
       arith,
       ap length word,
       short.short,
+      ap (λ (w : Written). length w.turns) c.scramble.ensures,
       ap (λ (w : Written). length w.turns) c.with_event-scramble.ensures,
       c.scramble_333-first.ensures.scramble.within,
     )
@@ -54,15 +51,15 @@ before : (c : goal.After-push_all) → IsBefore c.args.held.now c.in-Some.before
 before c =
     let s = c.args.held.now in
     let word = ap (λ (w : Written). w.turns) c.word_of_hold-word.ensures ∙ ap hold_word c.hold.ensures.number in
-    let turns = ap (λ (w : Written). w.turns) c.inverse.ensures.value ∙ ap (back opposite) word in
+    let turns = ap (λ (w : Written). w.turns) c.taken_back.ensures ∙ ap (back opposite) word in
     IsBefore-played s c.in-Some.before c.hold.ensures.valid (ap (play held_cube_after s) (sym turns) ∙ sym c.play.ensures ∙ c.in-Some.is)
 
 joined : (c : goal.After-push_all)
     → c.push_all.new.scramble.turns ≡ c.scramble_333-first.result.turns ++ hold_word (hold_of c.args.held.now.centres)
 joined c =
-    let word = ap (λ (w : Written). w.turns) c.word_of_hold-word.ensures ∙ ap hold_word c.hold.ensures.number in
+    let word = ap (λ (w : Written). w.turns) (c.scramble.ensures ∙ c.word_of_hold-word.ensures) ∙ ap hold_word c.hold.ensures.number in
     ap (λ (s : Written). s.turns) c.push_all.ensures
-    ∙ ap (λ (s : Written). s.turns ++ c.word_of_hold-word.result.turns) c.with_event-scramble.ensures
+    ∙ ap (λ (s : Written). s.turns ++ c.scramble.result.turns) c.with_event-scramble.ensures
     ∙ ap (λ w. c.scramble_333-first.result.turns ++ w) word
 
 scramble : (c : goal.After-push_all) → IsScramble333bf c.args.tries c.args.held.now c.push_all.new.scramble.turns

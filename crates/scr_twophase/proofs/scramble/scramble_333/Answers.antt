@@ -1,36 +1,36 @@
-use Rattle.std.proofs.Common.{◌≡◌, ◌≤◌, length, sym, ap, ◌∙◌, subst, arith}
+use Rattle.std.proofs.Common.{◌≤◌, length, sym, ap, ◌∙◌, subst, arith}
 use Rattle.std.specs.Prelude.{is_some}
 use Rattle.std.proofs.lemmas.Bool.{false≢true}
 use Rattle.scr_combinatorics.specs.Play.{play}
 use Rattle.scr_combinatorics.specs.Back.{back}
 use Rattle.scr_orbit.specs.PowerPuzzles.{after_letter}
-use Rattle.scr_notation.specs.declared.event.Event.TheVariants.{C333, Clock}
+use Rattle.scr_notation.specs.Written.{Written}
+use Rattle.scr_notation.proofs.OppositeLaws.{length-back}
 use Rattle.scr_notation.specs.Turning.{opposite}
 use Rattle.scr_cube.specs.Cube333.{cube_powers, solved_cube}
 use Rattle.scr_cube.proofs.Laws333.{lawful_cube}
 use Rattle.scr_twophase.specs.TwoParts.{two_parts}
-use Rattle.scr_twophase.proofs.PartLaws.{IsScrambleBy, IsScrambleBy-unique, length-back, no_parts, spelled_parts}
+use Rattle.scr_twophase.proofs.MinimaLaws.{play-spelled}
+use Rattle.scr_twophase.proofs.PartLaws.{IsScrambleBy, IsScrambleBy-unique, IsWordOf-some, no_parts, two_parts-played}
 use Rattle.scr_twophase.proofs.scramble.scramble_333.Goals as goal
-
-pub inverse-requires : goal.inverse-requires
-inverse-requires c = λ e. let two : C333 ≡ Clock = sym c.in-Some.ensures.event ∙ e in cc
 
 pub returns-in-Some : goal.returns-in-Some
 returns-in-Some c =
     let cube = c.args.cube.now in
     let parts = two_parts cube c.args.tries in
-    let turns = ap (λ s. s.turns) c.inverse.ensures.value in
-    let spelled = spelled_parts parts c.in-Some.parts.turns c.in-Some.ensures.parts in
-    let scramble = subst (λ o. IsScrambleBy o cube c.inverse.result.turns) (sym spelled.1) (turns ∙ ap (back opposite) spelled.2) in
-    let few : length c.inverse.result.turns ≤ 22 = omega (arith, ap length turns, length-back c.in-Some.parts.turns, c.in-Some.ensures.at_most) in
+    let word = IsWordOf-some parts c.in-Some.word c.in-Some.ensures.parts in
+    let turns = ap (λ (w : Written). w.turns) c.taken_back.ensures in
+    let played = ap (play (after_letter cube_powers) cube) word.spelled ∙ play-spelled cube word.word ∙ two_parts-played cube c.args.tries word.word word.parts in
+    let scramble = subst (λ o. IsScrambleBy o cube c.taken_back.result.turns) (sym word.parts) (turns ∙ ap (back opposite) word.spelled) in
+    let few : length c.taken_back.result.turns ≤ 22 = omega (arith, ap length turns, length-back c.in-Some.word.turns, c.in-Some.ensures.few) in
     record {
       scramble = record {
-        of_event = ap (λ s. s.event) c.inverse.ensures.value ∙ c.in-Some.ensures.event;
+        of_event = ap (λ (w : Written). w.event) c.taken_back.ensures ∙ word.of_event;
         scramble = scramble;
-        only = λ other h. IsScrambleBy-unique parts cube other c.inverse.result.turns h scramble;
+        only = λ other h. IsScrambleBy-unique parts cube other c.taken_back.result.turns h scramble;
         within = omega (arith, few);
         gives = ap (play (after_letter cube_powers) solved_cube) turns
-            ∙ lawful_cube.lawful.taken_back cube solved_cube c.in-Some.parts.turns c.in-Some.ensures.valid c.in-Some.ensures.played;
+            ∙ lawful_cube.lawful.taken_back cube solved_cube c.in-Some.word.turns c.in-Some.ensures.valid played;
       };
       few = λ _. few;
     }

@@ -19,8 +19,7 @@ returns c =
     c.unrank_with_parity.ensures.list
     ∙ ap (λ k. half_at 12 k (get_or c.unrank.result 3 0)) odd
     ∙ ap (λ ds. half_at 12 (parity (cube_numbered.state_at c.args.number).corners.pieces) (get_or ds 3 0)) digits in
-    c.of_valid.ensures
-    ∙ same_cube _ cube
+    same_cube _ cube
     (c.new-2.ensures ∙ same_orbit _ cube.corners corners (c.unrank-2.ensures.list ∙ ap (λ ds. twists_at 8 3 (get_or ds 1 0)) digits))
     (c.new-3.ensures ∙ same_orbit _ cube.edges edges
     (c.unrank-3.ensures.list ∙ ap (λ ds. twists_at 12 2 (get_or ds 0 0)) digits))

@@ -10,7 +10,7 @@ pub returns : goal.returns
 unfolding corners_of_digits
 returns c =
     let digits = c.unrank.ensures.list ∙ ap (λ bases. mixed_digits bases c.args.number) c.new.ensures in
-    c.of_valid.ensures ∙ c.new-2.ensures
+    c.new-2.ensures
     ∙ same_orbit _ (numbered_222.state_at c.args.number)
     (c.unrank-2.ensures.list ∙ ap (λ ds. permutation_at 7 (get_or ds 1 0)) digits)
     (c.unrank-3.ensures.list ∙ ap (λ ds. twists_at 7 3 (get_or ds 0 0)) digits)

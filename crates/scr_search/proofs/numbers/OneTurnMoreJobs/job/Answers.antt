@@ -1,17 +1,20 @@
-use Rattle.std.proofs.Common.{◌≡◌, ℕ, false}
-use Rattle.std.specs.Prelude.{Contains}
-use Rattle.std.proofs.lemmas.Result.{IfOk-weaker}
-use Rattle.scr_search.specs.Spread.{IsSpread}
+use Rattle.std.proofs.Common.{◌≡◌, false, sym, subst}
+use Rattle.std.specs.Prelude.{◌==◌, Contains}
+use Rattle.std.specs.List.{dedup}
+use Rattle.std.proofs.lemmas.List.Filters.{dedup_is}
+use Rattle.std.proofs.lemmas.List.Kept.{Contains-dedup_nat}
+use Rattle.std.proofs.lemmas.List.Sorted.{Contains-permutation}
 use Rattle.scr_search.proofs.NearLaws.{IsSpread-wider}
 use Rattle.scr_search.proofs.numbers.OneTurnMoreJobs.job.Goals as goal
 
 pub returns : goal.returns
 returns g c =
-    let v = g.P.Part.views in
-    let lists = c.args.self.now.lists.now in
     let into = c.spread.new.into in
-    let Has : ℕ → Type 0 = λ n. into.is_cut ≡ false → Contains into.numbers.items n in
-    IfOk-weaker c.in_order.result (λ all. (n : ℕ) → Has n → Contains all.items n)
-    (λ all. IsSpread v lists c.args.slot (Contains all.items))
-    (λ all kept. IsSpread-wider v lists c.args.slot Has (Contains all.items) kept c.spread.ensures)
-    c.in_order.ensures
+    let made = into.numbers.items in
+    let sorted = c.sort_unstable.new.self.items in
+    let kept : c.dedup.new.self.items ≡ dedup (λ x y. x == y) sorted = dedup_is (λ x y. x == y) sorted _ c.dedup.ensures.filtered in
+    IsSpread-wider g.P.Part.views c.args.self.now.lists.now c.args.slot (λ n. into.is_cut ≡ false → Contains made n)
+    (Contains c.dedup.new.self.items) (λ number there.
+    subst (λ xs. Contains xs number) (sym kept)
+    (Contains-dedup_nat sorted number (Contains-permutation made sorted number c.sort_unstable.ensures.permutation (there c.if-into.false))))
+    c.spread.ensures

@@ -1,37 +1,48 @@
-use Rattle.std.proofs.Common.{◌≡◌, ℕ, ◌-◌, ◌<◌, not, [], ◌∷◌, ◌++◌, true, length, length-append, get_or, refl, sym, ap, ◌∙◌, subst, arith}
+use Rattle.std.proofs.Common.{◌≡◌, ℕ, ◌-◌, ◌<◌, not, [], ◌∷◌, ◌++◌, false, true, eq-eqb, ne_eqb, length, length-append, get_or, refl, sym, ap, ◌∙◌, subst, arith}
 use Rattle.std.specs.Prelude.{◌==◌}
 use Rattle.std.specs.Option.{option_map_or}
 use Rattle.std.proofs.lemmas.Bool.{and_parts}
 use Rattle.scr_combinatorics.specs.Words.{words_behind}
 use Rattle.scr_table.proofs.WordLists.{popped_word, pushed_word}
 use Rattle.scr_search.specs.Orderly.{ends_with}
-use Rattle.scr_search.specs.Search.{IsAt, IsSearched}
+use Rattle.scr_search.specs.Search.{IsAt}
 use Rattle.scr_search.specs.TurnSets.{contains_turn}
 use Rattle.scr_search.specs.Views.{is_whole}
 use Rattle.scr_search.proofs.Orderly.{last-push}
-use Rattle.scr_search.proofs.Outcomes.{IsLeft-all, IsLeft-found, IsLeft-none, IsLeft-passed, IsSearched-spent}
-use Rattle.scr_search.proofs.SearchSteps.{IsAt-turned, words_kept}
+use Rattle.scr_search.proofs.Outcomes.{IsLeft-all, IsLeft-found, IsLeft-none, IsLeft-passed, IsSearched-none, IsSearched-one, IsSearched-spent}
+use Rattle.scr_search.proofs.SearchSteps.{IsAt-turned, whole-at, words_kept}
 use Rattle.scr_search.proofs.search.Search.+behind.Given.{Over}
-use Rattle.scr_search.proofs.search.Search.+behind.Goals.{After-push}
+use Rattle.scr_search.proofs.search.Search.+behind.Goals.{After-push, Else-number_of-extent}
 use Rattle.scr_search.proofs.search.Search.+behind.Goals as goal
 
 pub returns-then-tries-eq0 : goal.returns-then-tries-eq0
 returns-then-tries-eq0 g t c = IsSearched-spent c.if-tries-eq0.true
 
-pub at_end-requires : goal.at_end-requires
-at_end-requires g t c = record {
-  at = c.requires.at;
-  last = c.requires.last c.if-left-eq0.true;
-  few = omega (arith, c.requires.few);
-  tries = omega (arith, c.if-tries-eq0.false);
-}
+pub returns-then-number_of-extent : goal.returns-then-number_of-extent
+returns-then-number_of-extent g t c =
+    let h = c.requires.at in
+    rw c.if-left-eq0.true (IsSearched-none (whole-at h false (c.requires.last c.if-left-eq0.true) (c.extent.ensures.views.end h.there h.shows.seen
+    ∙ ne_eqb _ _ (λ e. c.if-number_of-extent.true (c.number_of.ensures h.there h.shows ∙ e)))))
+
+ends : (g : Over) (t : ℕ) (c : Else-number_of-extent g t) → g.P.Part.views.ends c.requires.at.there ≡ true
+ends g t c =
+    let h = c.requires.at in
+    c.extent.ensures.views.end h.there h.shows.seen ∙ eq-eqb _ _ (sym (c.number_of.ensures h.there h.shows) ∙ c.if-number_of-extent.false)
+
+pub give-requires : goal.give-requires
+give-requires g t c =
+    let h = c.requires.at in
+    let end = ends g t (goal.at.give-requires g t c).Else-number_of-extent in
+    record {
+      whole = record { there = h.there; played = h.played; seen = h.shows.seen; ends = end; orderly = h.orderly };
+      few = omega (arith, c.requires.few);
+    }
 
 pub returns-then-left-eq0 : goal.returns-then-left-eq0
 returns-then-left-eq0 g t c =
-    let v = g.P.Part.views in
-    let cube = c.args.self.now.cube.now in
-    subst (λ n. IsSearched (g.P.Part.gives cube) (words_behind v.turns (is_whole v cube) c.args.word.now n) c.args.tries.now c.args.word.now c.at_end.result
-    c.at_end.new.word c.at_end.new.tries) (sym c.if-left-eq0.true) c.at_end.ensures
+    let end = ends g t (goal.at.returns-then-left-eq0 g t c).Else-number_of-extent in
+    rw c.if-left-eq0.true (IsSearched-one (whole-at c.requires.at true (c.requires.last c.if-left-eq0.true) end) (omega (arith, c.if-tries-eq0.false))
+    c.give.ensures.given c.give.ensures.same refl)
 
 pub turns_behind-turns-requires : goal.turns_behind-turns-requires
 turns_behind-turns-requires g t c = record { at = (c.args.self.now.cube.now, c.requires.at); some = omega (arith, c.if-left-eq0.false) }
@@ -51,20 +62,18 @@ loop-place-init g t c =
 pub after-next-requires-clause-place : goal.after-next-requires-clause-place
 after-next-requires-clause-place g t c = (c.loop-place.invariant.follow c.in-Some.place c.in-Some.ensures.taken).below
 
-pub turn-requires : goal.turn-requires
-turn-requires g t c = (c.loop-place.invariant.follow c.in-Some.place c.in-Some.ensures.taken).below
-
 pub push-requires : goal.push-requires
 push-requires g t c = record {
-  turn = c.turn.ensures.below;
+  turn = omega (arith, c.extent-in-Some.ensures.views.numbers c.in-Some.place (c.loop-place.invariant.follow c.in-Some.place c.in-Some.ensures.taken).below);
   room = omega (arith, ap length c.loop-place.invariant.same, c.requires.few, g.met.P.Part.short, c.if-left-eq0.false);
 }
 
 -- the word with the turn
 pushed : (g : Over) (t : ℕ) (c : After-push g t) → c.push.new.self ≡ c.args.word.now ++ get_or g.P.Part.views.turns c.in-Some.place 0 ∷ []
 pushed g t c =
-    pushed_word c.push.new.self c.loop-place.word c.args.word.now c.turn.result (get_or g.P.Part.views.turns c.in-Some.place 0) c.push.ensures
-    c.loop-place.invariant.same c.turn.ensures.turn
+    let is = c.extent-in-Some.ensures.views.numbers c.in-Some.place (c.loop-place.invariant.follow c.in-Some.place c.in-Some.ensures.taken).below in
+    pushed_word c.push.new.self c.loop-place.word c.args.word.now (get_or c.extent-in-Some.result.now.numbers c.in-Some.place 0)
+    (get_or g.P.Part.views.turns c.in-Some.place 0) c.push.ensures c.loop-place.invariant.same is.0
 
 pub behind-requires : goal.behind-requires
 behind-requires g t c = λ κs lives.
@@ -75,7 +84,7 @@ behind-requires g t c = λ κs lives.
     let turn : ℕ = get_or v.turns place 0 in
     let may = c.loop-place.invariant.follow place c.in-Some.ensures.taken in
     let by = pushed g t (goal.at.behind-requires g t c).After-push in
-    let below : turn < 18 = omega (arith, c.turn.ensures.turn, c.turn.ensures.below) in
+    let below : turn < 18 = (c.extent-in-Some.ensures.views.numbers place may.below).1 in
     let at = IsAt-turned v cube word c.args.at c.after-next.result place below c.requires.at may c.after-next.ensures in (
       omega (arith, c.decreases, c.if-left-eq0.false),
       (

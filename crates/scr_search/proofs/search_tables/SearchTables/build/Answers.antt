@@ -70,7 +70,7 @@ invariant_of-result g c =
           (c.in_ok-one_slice.ensures.table _ (c.beside.ensures.shows v.one.coordinate v.middle.coordinate (are.middle.turns ∙ sym are.one.turns) c.in_ok-one.ensures c.in_ok-middle.ensures));
       other_is = subst (λ x. IsPruningTable (other_line v x) c.in_ok-other_slice.other_slice) c.extent-extent.ensures.same
           (c.in_ok-other_slice.ensures.table _ (c.beside-2.ensures.shows v.other.coordinate v.middle.coordinate (are.middle.turns ∙ sym are.other.turns) c.in_ok-other.ensures c.in_ok-middle.ensures));
-      near_is = IsNear-all v 7 (IsInSet c.of_all.result) c.of_all.ensures;
+      near_is = IsNear-all v 7 (IsInSet (record { blocks = c.new.result })) (λ number. record { bits = λ block is. let at = rw c.new.ensures.items at is in cc });
     }
 
 pub returns-clause-whole : goal.returns-clause-whole

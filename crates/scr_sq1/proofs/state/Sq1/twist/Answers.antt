@@ -10,5 +10,6 @@ valid_units s units equator are h =
     subst (λ us. let r : Sq1State = record { units = us; equator = equator } in IsSq1 r) (sym are) (IsSq1-twisted s equator h)
 
 pub invariant_of-result : goal.invariant_of-result
+unfolding twist_places
 invariant_of-result c =
-    valid_units (record { units = c.self.inside.units; equator = c.self.inside.equator }) _ _ c.twisted.ensures c.self.invariant
+    valid_units (record { units = c.self.inside.units; equator = c.self.inside.equator }) _ _ c.moved.ensures c.self.invariant

@@ -1,9 +1,8 @@
-use Rattle.std.proofs.Common.{◌+◌, ◌*◌, ◌%◌, ap}
+use Rattle.std.proofs.Common.{arith}
 use Rattle.scr_sq1tables.proofs.HomeStage.{rows-led}
 use Rattle.scr_sq1tables.proofs.code_moves.CodeMoves.place_after.Goals as goal
 
 pub target-requires-clause-led : goal.target-requires-clause-led
 target-requires-clause-led c =
     let m = c.args.self.now in
-    let p = c.args.position in
-    rows-led m.kept m.shows_corners m.shows_rows c.requires.position c.requires.turn (ap (λ k. p % 192 + 192 * k) c.row_parity.ensures.value)
+    rows-led m.kept m.shows_corners m.shows_rows c.requires.position c.requires.turn (grind arith)

@@ -13,7 +13,7 @@ returns-clause-parts c =
       middle_is = c.block_number.ensures.number ∙ ap (λ xs. permutation_number (in_block middle_edges xs)) edges;
       second_is = c.block_number-2.ensures.number ∙ ap (λ xs. permutation_number (in_block second_edges xs)) edges;
       first_is = c.block_number-3.ensures.number ∙ ap (λ xs. permutation_number (in_block first_edges xs)) edges;
-      corners_is = c.half_corners_number.ensures ∙ ap half_corners_number c.corners.ensures.same;
+      corners_is = c.number_of.ensures ∙ ap half_corners_number c.corners.ensures.same;
     }
 
 pub returns-clause-below : goal.returns-clause-below

@@ -1,4 +1,4 @@
-use Rattle.std.proofs.Common.{◌+◌, ◌-◌, ◌++◌, [], length, sym, ap, ◌∙◌, subst, take, arith}
+use Rattle.std.proofs.Common.{◌+◌, ◌-◌, ◌++◌, [], sym, ap, ◌∙◌, subst, take, arith}
 use Rattle.std.specs.List.{flat_map}
 use Rattle.scr_combinatorics.specs.Lists.{numbers_from}
 use Rattle.scr_table.specs.Words.{goal_words_behind, words_to_goal}
@@ -13,12 +13,12 @@ loop-left-init g c =
     let most = c.args.most in
     let f = goal_words_behind line p [] in
     let first = c.distance-near.result in
-    let others = flat_map f (numbers_from first (most + 1 - first)) in (
-      IsTaking-begin c.args.wanted (words_to_goal line p most) c.new-found.result others
-          (ap (λ ws. ws ++ others) c.new-found.ensures
-          ∙ ap (λ d. flat_map f (numbers_from d (most + 1 - d))) c.distance-near.ensures.value
+    let others = flat_map f (numbers_from first (most + 1 - first)) in
+    rw c.new.ensures (
+      IsTaking-begin c.args.wanted (words_to_goal line p most) [] others
+          (ap (λ d. flat_map f (numbers_from d (most + 1 - d))) c.distance-near.ensures.value
           ∙ goal_words-skipped line c.self.inside.distances c.self.invariant.is.measures p most c.requires.position)
-          (omega (arith, ap length c.new-found.ensures)),
+          (omega arith),
       c.new-word.ensures,
     )
 

@@ -1,6 +1,0 @@
-use Rattle.std.proofs.Common.{◌≡◌, drop}
-use Rattle.scr_combinatorics.specs.Digits.{mixed_number}
-use Rattle.scr_rank.proofs.mixed.rank_digits.Given as goal
-
-abbrev pub invariant-loop-place : goal.invariant-loop-place
-invariant-loop-place l = l.number ≡ mixed_number (drop l.place l.bases) (drop l.place l.digits)

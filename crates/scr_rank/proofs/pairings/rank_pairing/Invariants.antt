@@ -1,5 +1,0 @@
-use Rattle.scr_rank.proofs.PairingSteps.{RankedPairs}
-use Rattle.scr_rank.proofs.pairings.rank_pairing.Given as goal
-
-abbrev pub invariant-loop-pairs : goal.invariant-loop-pairs
-invariant-loop-pairs l = RankedPairs l.pairs l.number l.rest l.partners

@@ -1,6 +1,0 @@
-use Rattle.std.proofs.Common.{◌-◌}
-use Rattle.scr_sq1.proofs.ShapeSteps.{ReadHalves}
-use Rattle.scr_sq1.proofs.shapes.shape_in.Given as goal
-
-abbrev pub invariant-loop-half : goal.invariant-loop-half
-invariant-loop-half l = ReadHalves l.half (4 - l.half) l.units l.halves

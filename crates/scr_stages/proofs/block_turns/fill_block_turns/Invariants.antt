@@ -1,7 +1,0 @@
-use Rattle.std.proofs.Common.{◌≡◌, map, take}
-use Rattle.scr_orbit.specs.PlaceTurns.{made_by}
-use Rattle.scr_stages.specs.Tables.{block_turns}
-use Rattle.scr_stages.proofs.block_turns.fill_block_turns.Given as goal
-
-abbrev pub invariant-loop-at : goal.invariant-loop-at
-invariant-loop-at g l = map made_by (take l.at l.out) ≡ block_turns l.block (map made_by l.turns) (take l.at l.numbers)

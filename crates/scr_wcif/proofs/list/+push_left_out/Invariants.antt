@@ -1,5 +1,0 @@
-use Rattle.std.proofs.Common.{length}
-use Rattle.scr_wcif.proofs.list.+push_left_out.Given as goal
-
-abbrev pub decreases-push_left_out : goal.decreases-push_left_out
-decreases-push_left_out l = length l.named.now
