@@ -1,5 +1,5 @@
 -- The turns of a Megaminx by the bits of a number.
-use Rattle.std.proofs.Common.{◌≡◌, ℕ, zero, suc, ◌+◌, ◌*◌, ◌/◌, ◌%◌, ◌^◌, ◌<◌, ◌==◌, min, Bool, Some, List, [], ◌∷◌, ◌++◌, length, replicate, slice_index, refl, sym, ap, ◌∙◌, append_assoc, lit<, arith}
+use Rattle.std.proofs.Common.{◌≡◌, ℕ, zero, suc, ◌+◌, ◌*◌, ◌/◌, ◌%◌, ◌^◌, ◌<◌, ◌==◌, min, Bool, None, Some, List, [], ◌∷◌, ◌++◌, length, replicate, slice_index, refl, sym, ap, ◌∙◌, append_assoc, lit<, arith}
 use Rattle.std.specs.Prelude.{slice_get, if◌then◌else◌, All}
 use Rattle.std.specs.List.{flat_map, range_with_len}
 use Rattle.std.proofs.lemmas.Bool.{ne_eqb}
@@ -83,13 +83,16 @@ unfolding rows_turns
 rows-end bits turns row whole so_far = rw (so_far, whole) refl
 
 -- every number is accepted
-pub moves-accepted : (word : ℕ → ℕ) (place number : ℕ) → number ≡ attempt_value word place → number < 2 ^ 96
-    → megaminx_moves word place ≡ Some (rows_turns (bits_of (number % 2 ^ 70)))
+pub always-accepted : (v : ℕ) → v < 2 ^ 96 → None ≡ answer (2 ^ 70) v → ⊥
+always-accepted v below none = some_not_none (answer-accepted (2 ^ 70) v below ∙ sym none)
+  where
+    some_not_none : {n : ℕ} → Some n ≡ None → ⊥
+    some_not_none same = cc
+
+pub moves-answered : (word : ℕ → ℕ) (place number : ℕ) → Some number ≡ answer (2 ^ 70) (attempt_value word place)
+    → megaminx_moves word place ≡ Some (rows_turns (bits_of number))
 unfolding megaminx_moves
-moves-accepted word place number is below =
-    let test : answer (2 ^ 70) (attempt_value word place) ≡ Some (number % 2 ^ 70) =
-    ap (answer (2 ^ 70)) (sym is) ∙ sym (answer-accepted (2 ^ 70) number below) in
-    rw test refl
+moves-answered word place number is = rw (← is) refl
 
 -- ---- turns by their places
 

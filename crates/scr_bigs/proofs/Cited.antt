@@ -1,11 +1,7 @@
 -- The lemmas that the proofs of the code cite, by function.
-use Rattle.std.proofs.lemmas.Bool.Decides.{nat_tests}
 use Rattle.std.proofs.lemmas.List.{length_push}
-use Rattle.scr_bigs.proofs.BitLaws.{moves-accepted, rest-more, row-end, row-more, rows-end, rows-more}
-use Rattle.scr_bigs.proofs.TurnOrder.{turn-at}
+use Rattle.scr_bigs.proofs.BitLaws.{always-accepted, rest-more, row-end, row-more, rows-more}
 
-pub ruleset turn_at = (turn-at, nat_tests)
-
-pub ruleset megaminx = (rows-more, rows-end, moves-accepted)
+pub ruleset megaminx = (rows-more, always-accepted)
 
 pub ruleset push_row = (row-more, rest-more, row-end, length_push)

@@ -1,6 +1,6 @@
 //! The random moves of a big cube.
 
-ghost use Rattle.std.specs.Prelude.{◌≡◌, ◌+◌, ◌-◌, ◌*◌, ◌^◌, ◌<◌, ◌≤◌, Some, None, IfOk, IfErr, OnErr, slice_get};
+ghost use Rattle.std.specs.Prelude.{◌≡◌, ◌+◌, ◌-◌, ◌*◌, ◌^◌, ◌<◌, ◌≤◌, Some, None, IfOk, IfErr, OnErr};
 ghost use Rattle.scr_bigs.specs.BigCubes.{IsSide, cube_event, cube_turns, turns_made};
 ghost use Rattle.scr_bigs.specs.CubeMoves.{cube_moves, attempts_read};
 
@@ -33,18 +33,39 @@ pub fn big_cube<W: Words, const SIDE: usize>(
     ensures same_words { W.word_at words.new ≡ W.word_at words.old }
 {
     let side = SIDE as u8;
-    let mut scramble = Scramble::new(event_of(side));
+    let near = side / 2;
+    let slabs = side - 1;
+    let mut scramble = Scramble::new(match side {
+        5 => Event::C555,
+        6 => Event::C666,
+        _ => Event::C777,
+    });
     let mut left_out = LeftOut { first: 0, count: 0 };
     for made in 0..20 * (side - 2) {
-        let choice = choose(words, 9 * (side - 1) - left_out.count, attempts)?;
+        let choice = choose(words, 9 * slabs - left_out.count, attempts)?;
         let number = if choice < left_out.first {
             choice
         } else {
             choice + left_out.count
         };
-        push_turn(&mut scramble, turn_at(side, number));
         let slab = number / 3;
-        let place = slab % (side - 1);
+        let axis = slab / slabs;
+        let place = slab % slabs;
+        let amount = number % 3 + 1;
+        let turn = if place < near {
+            Turn::Face {
+                face: axis,
+                depth: place + 1,
+                amount,
+            }
+        } else {
+            Turn::Face {
+                face: axis + 3,
+                depth: place - near + 1,
+                amount,
+            }
+        };
+        push_turn(&mut scramble, turn);
         left_out = LeftOut {
             first: 3 * (slab - place),
             count: 3 * (place + 1),
@@ -53,49 +74,10 @@ pub fn big_cube<W: Words, const SIDE: usize>(
     Ok(scramble)
 }
 
-/// The event of a cube with so many layers.
-fn event_of(side: u8) -> Event
-    requires { IsSide side }
-    ensures { result ≡ cube_event side }
-{
-    match side {
-        5 => Event::C555,
-        6 => Event::C666,
-        _ => Event::C777,
-    }
-}
-
 /// The turns that may not come next, by their numbers among all turns: so many from the first on. They are those of the
 /// axis of the turn before, up to its slab.
 #[derive(Clone, Copy)]
 struct LeftOut {
     first: u8,
     count: u8,
-}
-
-/// The turn with this number among all turns, in the order of axis, slab and amount.
-#[tactic(auto, using(crate::proofs::Cited::turn_at), unfolding(crate::proofs::TurnOrder::turn_numbered))]
-fn turn_at(side: u8, number: u8) -> Turn
-    requires side { IsSide side }
-    requires below { number < 9 * (side - 1) }
-    ensures { slice_get (cube_turns side) number ≡ Some result }
-{
-    let slabs = side - 1;
-    let near = side / 2;
-    let axis = number / 3 / slabs;
-    let place = number / 3 % slabs;
-    let amount = number % 3 + 1;
-    if place < near {
-        Turn::Face {
-            face: axis,
-            depth: place + 1,
-            amount,
-        }
-    } else {
-        Turn::Face {
-            face: axis + 3,
-            depth: place - near + 1,
-            amount,
-        }
-    }
 }

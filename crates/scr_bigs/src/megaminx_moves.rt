@@ -4,7 +4,7 @@ ghost use Rattle.std.specs.Prelude.{◌≡◌, ◌+◌, ◌^◌, ◌<◌, ◌≤
 ghost use Rattle.scr_notation.specs.declared.event.Event.TheVariants.{Minx};
 ghost use Rattle.scr_bigs.specs.Megaminx.{bits_of, row_turns, megaminx_moves};
 
-use scr_draw::next_number;
+use scr_draw::attempt;
 use scr_notation::{Event, Scramble, Turn, push_turn};
 use scr_words::Words;
 
@@ -25,7 +25,9 @@ pub fn megaminx<W: Words>(words: &mut W) -> Scramble
     ensures same_words { W.word_at words.new ≡ W.word_at words.old }
 {
     let mut scramble = Scramble::new(Event::Minx);
-    let number = next_number(words) % (1 << 70);
+    let Some(number) = attempt(words, 1 << 70) else {
+        unreachable!("2^96 is a multiple of 2^70");
+    };
     for row in 0..7u32 {
         push_row(&mut scramble, number, row);
     }

@@ -1,9 +1,8 @@
 //! A 3x3x3 as it is held.
-ghost use Rattle.std.specs.Prelude.{◌≡◌, ℕ, ◌<◌, ◌≤◌, ◌↔◌, Contains, IfSome, IsNone, IsSome, Some, [], slice_index_or};
-ghost use Rattle.scr_combinatorics.specs.Lists.{pick};
+ghost use Rattle.std.specs.Prelude.{◌≡◌, ◌<◌, ◌≤◌, ◌↔◌, Contains, IfSome, IsSome, Some};
 ghost use Rattle.scr_combinatorics.specs.Play.{play};
 ghost use Rattle.scr_notation.specs.declared.turn.Turn.TheVariants.{Face};
-ghost use Rattle.scr_cube.specs.Held.{IsHeld, centres_after, face_letter, held_cube_after, hold_centres, hold_of, holds, solved_held, whole_quarters};
+ghost use Rattle.scr_cube.specs.Held.{IsHeld, held_cube_after, hold_centres, hold_of, holds, solved_held};
 
 use crate::cube::Cube;
 use scr_notation::{Event, PowerTurned, Scramble, Turn};
@@ -80,9 +79,10 @@ impl Held {
         ensures valid { IsSome result ↔ Contains holds centres }
         ensures value { IfSome result (λ state. state ≡ record { cube = cube; centres = centres }) }
     {
-        match number_of_hold(&centres) {
-            Some(_) => Some(Held { cube, centres }),
-            None => None,
+        if HOLDS.contains(&centres) {
+            Some(Held { cube, centres })
+        } else {
+            None
         }
     }
 
@@ -111,10 +111,13 @@ impl Held {
         ensures centres { hold_centres result ≡ self.now.centres }
         ensures valid { IsHeld self.now }
     {
-        match number_of_hold(&self.centres()) {
-            Some(hold) => hold,
-            None => unreachable!(),
+        let centres = self.centres();
+        for hold in 0..24u8 {
+            if HOLDS[hold as usize] == centres {
+                return hold;
+            }
         }
+        unreachable!()
     }
 
     /// The state after a turn at a place, below 6, by `amount` quarters, from 1 to 3, of one layer; or of two layers at
@@ -127,10 +130,22 @@ impl Held {
         requires quarters { (0 < amount) × (amount ≤ 3) }
         ensures { held_cube_after self.now (Face place depth amount) ≡ Some result }
     {
-        let face = turned_face(&self.centres, place, depth);
-        let centres = centres_turned(&self.centres, place, depth, amount);
+        let (turned, quarters) = if depth == 1 {
+            (place, 0)
+        } else {
+            ((place + 3) % 6, amount)
+        };
+        let mut centres = self.centres;
+        for _quarter in 0..quarters {
+            let [up, right, front, down, left, back] = centres;
+            centres = match place {
+                0 => [up, back, right, down, front, left],
+                1 => [front, right, down, back, left, up],
+                _ => [left, up, front, right, down, back],
+            };
+        }
         Held {
-            cube: self.cube.turn(face, amount),
+            cube: self.cube.turn(self.centres[turned as usize], amount),
             centres,
         }
     }
@@ -141,79 +156,19 @@ impl Held {
     {
         let mut state = *self;
         for turn in scramble.turns() {
-            state = state.after(*turn)?;
-        }
-        Some(state)
-    }
-
-    /// The state after a letter's turn, or `None` where it is no turn of the event 333bf.
-    fn after(&self, letter: Turn) -> Option<Held>
-        ensures { result ≡ held_cube_after self.now letter }
-    {
-        if !letter.is_of(Event::Bf333) {
-            return None;
-        }
-        match letter {
-            Turn::Face {
+            if !turn.is_of(Event::Bf333) {
+                return None;
+            }
+            let Turn::Face {
                 face: place,
                 depth,
                 amount,
-            } => Some(self.turn(place, depth, amount)),
-            _ => unreachable!(),
+            } = *turn
+            else {
+                unreachable!();
+            };
+            state = state.turn(place, depth, amount);
         }
-    }
-}
-
-/// The number of the hold with these centres, if there is one.
-fn number_of_hold(centres: &[u8; 6]) -> Option<u8>
-    ensures found { IfSome result (λ hold. (hold < 24) × (hold_centres hold ≡ centres.now)) }
-    ensures none { IsNone result → Contains holds centres.now → ⊥ }
-{
-    for hold in 0..24u8 {
-        if HOLDS[hold as usize] == *centres {
-            return Some(hold);
-        }
-    }
-    None
-}
-
-/// The face that a turn of so many layers at a place, below 6, turns.
-fn turned_face(centres: &[u8; 6], place: u8, depth: u8) -> u8
-    requires { place < 6 }
-    ensures { (amount : ℕ) → face_letter centres.now (Face place depth amount) ≡ Face result 1 amount }
-{
-    if depth == 1 {
-        centres[place as usize]
-    } else {
-        centres[((place + 3) % 6) as usize]
-    }
-}
-
-/// The centres after a turn of so many layers at a place; of more than one it is below 3.
-fn centres_turned(centres: &[u8; 6], place: u8, depth: u8, amount: u8) -> [u8; 6]
-    requires { (depth ≡ 1 → ⊥) → place < 3 }
-    ensures { result ≡ centres_after centres.now (Face place depth amount) }
-{
-    let mut turned = *centres;
-    if depth == 1 {
-        return turned;
-    }
-    for _quarter in 0..amount {
-        let next = quarter_turned(turned, place);
-        turned = next;
-    }
-    turned
-}
-
-/// The centres after the whole cube was turned clockwise about U, R or F, the places 0 to 2.
-fn quarter_turned(centres: [u8; 6], place: u8) -> [u8; 6]
-    requires { place < 3 }
-    ensures { result ≡ pick centres (slice_index_or whole_quarters place []) }
-{
-    let [up, right, front, down, left, back] = centres;
-    match place {
-        0 => [up, back, right, down, front, left],
-        1 => [front, right, down, back, left, up],
-        _ => [left, up, front, right, down, back],
+        Some(state)
     }
 }

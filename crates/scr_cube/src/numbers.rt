@@ -1,6 +1,5 @@
 //! The numbers of cubes, by which they are drawn.
-ghost use Rattle.std.specs.Prelude.{◌≡◌, [], ◌∷◌};
-ghost use Rattle.scr_cube.specs.Cube333.{cube_numbered, cube_numbers};
+ghost use Rattle.scr_cube.specs.Cube333.{cube_numbered};
 ghost use Rattle.scr_cube.specs.Cube222.{numbered_222};
 ghost use Rattle.scr_cube.specs.Held.{held_numbered};
 
@@ -28,15 +27,11 @@ pub struct HeldNumbers;
 /// How many flips, twists, lists of corners and lists of edges of one parity there are.
 const CUBE_BASES: [u128; 4] = [2048, 2187, 40_320, 239_500_800];
 
+/// How many holds and cubes there are.
+const HELD_BASES: [u128; 2] = [24, 43_252_003_274_489_856_000];
+
 /// How many twists and lists of corners there are.
 const BASES_222: [u128; 2] = [729, 5040];
-
-/// The numbers of a hold and of a cube.
-fn held_radix() -> MixedRadix<2>
-    ensures { result ≡ 24 ∷ cube_numbers.count ∷ [] }
-{
-    MixedRadix::new([24, CubeNumbers.count()])
-}
 
 impl NumberedStates<Cube> for CubeNumbers {
     ghost numbered = { λ _. cube_numbered };
@@ -108,7 +103,7 @@ impl Numbering for HeldNumbers {
     type State = Held;
 
     fn state_at(&self, number: u128) -> Held {
-        let [hold, cube] = held_radix().unrank(number);
+        let [hold, cube] = MixedRadix::new(HELD_BASES).unrank(number);
         Held {
             cube: CubeNumbers.state_at(cube),
             centres: HOLDS[hold as usize],
@@ -117,10 +112,10 @@ impl Numbering for HeldNumbers {
 
     fn number_of(&self, state: &Held) -> u128 {
         let cube = CubeNumbers.number_of(state.cube());
-        held_radix().rank(&[u128::from(state.hold()), cube])
+        MixedRadix::new(HELD_BASES).rank(&[u128::from(state.hold()), cube])
     }
 
     fn count(&self) -> u128 {
-        held_radix().count()
+        MixedRadix::new(HELD_BASES).count()
     }
 }

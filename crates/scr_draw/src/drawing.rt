@@ -8,7 +8,7 @@ ghost use Rattle.scr_draw.specs.FirstHit.{numbers_read};
 ghost use Rattle.scr_combinatorics.specs.Reach.{Needs};
 ghost use Rattle.scr_draw.specs.StateSpace.{Draws, space_of};
 
-use crate::rejection::{attempt_within, limit_of};
+use crate::rejection::attempt;
 use crate::{Numbering, Permit};
 use scr_words::Words;
 
@@ -53,9 +53,8 @@ pub fn draw<W: Words, P: Numbering + Permit<P::State>>(
     ensures same_words { W.word_at words.new ≡ W.word_at words.old }
 {
     let count = puzzle.count();
-    let limit = limit_of(count);
     for tried in 0..attempts {
-        if let Some(number) = attempt_within(words, count, limit) {
+        if let Some(number) = attempt(words, count) {
             let state = puzzle.state_at(number);
             if puzzle.needs_at_least(&state, least) {
                 return Ok(state);

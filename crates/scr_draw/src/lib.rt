@@ -15,4 +15,4 @@ mod rejection;
 
 pub use drawing::{DrawLimit, draw};
 pub use event::{NumberedStates, Numbering, Permit};
-pub use rejection::{attempt, next_number};
+pub use rejection::attempt;

@@ -7,7 +7,7 @@ use Rattle.std.proofs.lemmas.Option.{cond_some}
 use Rattle.scr_combinatorics.specs.PowerLetters.{Power, IsPower, AreNumbered}
 use Rattle.scr_combinatorics.proofs.PowerLetterLaws.{ArePowers}
 use Rattle.scr_notation.specs.declared.turn.Turn.{Turn}
-use Rattle.scr_notation.specs.declared.turn.Turn.TheVariants.{Face, Axis, Tip, Layers, Twist, Pins, Over, Wide}
+use Rattle.scr_notation.specs.declared.turn.Turn.TheVariants.{Axis, Tip}
 use Rattle.scr_notation.specs.Amounts.{is_amount}
 use Rattle.scr_notation.specs.TurnNumbers.{axis_turn_at}
 use Rattle.scr_notation.specs.Turning.{opposite, are_alike, turn_merging}

@@ -1,5 +1,5 @@
 -- Printing and reading, turn by turn.
-use Rattle.std.proofs.Common.{◌≡◌, ℕ, ◌+◌, ◌<◌, ◌≤◌, Bool, true, false, suc, IsTrue, cond, List, [], ◌∷◌, ◌++◌, length, get_or, take, drop, refl, sym, ap, ◌∙◌, subst, arith, ne_eqb, length-append}
+use Rattle.std.proofs.Common.{◌≡◌, ℕ, ◌+◌, ◌<◌, ◌≤◌, Bool, true, false, suc, IsTrue, cond, List, [], ◌∷◌, ◌++◌, length, get_or, take, drop, refl, sym, ap, ◌∙◌, subst, arith, ne_eqb, length-append, append_assoc}
 use Rattle.std.specs.Prelude.{All, Ok, Result, ◌==◌, map}
 use Rattle.std.specs.Bool.{OnTrue}
 use Rattle.std.proofs.lemmas.Bool.{false≢true, eqb-true}
@@ -33,6 +33,16 @@ with_first word = refl
 with_another : (text word : List ℕ) → (length text ≡ 0 → ⊥) → with_word text word ≡ text ++ 32 ∷ word
 unfolding with_word
 with_another text word n = ap (λ b. cond b word (text ++ 32 ∷ word)) (ne_eqb (length text) 0 n)
+
+-- what stands before one more word
+abbrev pub gap_before : List ℕ → List ℕ
+gap_before text = cond (length text == 0) [] (32 ∷ [])
+
+pub with_gap : (text word : List ℕ) → (text ++ gap_before text) ++ word ≡ with_word text word
+unfolding with_word
+with_gap [] word = refl
+with_gap (byte ∷ text) word =
+    rw (ne_eqb (length (byte ∷ text)) 0 (λ e. omega arith)) (append_assoc (byte ∷ text) (32 ∷ []) word)
 
 -- the text of one turn more
 text_of-more : (e : Event) (ts : List Turn) (t : Turn) → All (λ u. IsTrue (permits e u)) ts

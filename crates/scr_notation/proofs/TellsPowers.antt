@@ -5,7 +5,7 @@ use Rattle.std.proofs.lemmas.Bool.{false≢true, cases_lt, cond-true, cond-false
 use Rattle.scr_combinatorics.specs.PowerLetters.{Power}
 use Rattle.scr_combinatorics.proofs.PowerLetterLaws.{TellsPowers}
 use Rattle.scr_notation.specs.declared.turn.Turn.{Turn}
-use Rattle.scr_notation.specs.declared.turn.Turn.TheVariants.{Face, Axis, Tip, Layers, Twist, Pins, Over, Wide}
+use Rattle.scr_notation.specs.declared.turn.Turn.TheVariants.{Face, Axis, Tip}
 use Rattle.scr_notation.specs.Amounts.{is_amount}
 use Rattle.scr_notation.specs.Axes.{is_axis_turn}
 use Rattle.scr_notation.specs.Faces.{is_face_turn, depths_of}

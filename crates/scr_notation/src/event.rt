@@ -106,13 +106,27 @@ pub enum Family {
     Square1,
 }
 
-/// What the table of events has of one.
+/// What the tables of events and of puzzles have of an event.
 #[derive(Clone, Copy)]
-struct EventRow {
-    id: &'static str,
-    name: &'static str,
-    puzzle: Puzzle,
-    per_group: u8,
+pub struct EventRow {
+    /// How lists and commands name it.
+    pub id: &'static str,
+    /// How a sheet names it.
+    pub name: &'static str,
+    /// What is scrambled for it.
+    pub puzzle: Puzzle,
+    /// How many scrambles a group has, without the two extra ones.
+    pub per_group: u8,
+    /// What its turns are.
+    pub kind: Kind,
+    /// The minima of its rounds; `None` for an event that is scrambled by random moves.
+    pub minima: Option<Minima>,
+    /// The family of its tables; `None` where its scrambles need no table.
+    pub family: Option<Family>,
+    /// Whether its states are tested by its table as they are drawn. (Those of others are tested by trying words.)
+    pub tested_by_table: bool,
+    /// How many layers the cube has whose net is shown, 2 to 7; `None` where none is.
+    pub net_side: Option<u8>,
 }
 
 /// What the table of puzzles has of one.
@@ -169,7 +183,7 @@ impl Event {
         ensures value { result ≡ kind_of self }
         ensures depths { IsKind result }
     {
-        self.puzzle().row().kind
+        self.row().kind
     }
 
     /// How many scrambles a group has, without the two extra ones.
@@ -185,21 +199,21 @@ impl Event {
         ensures value { result ≡ minima_of self }
         ensures range { IfSome result (λ minima. (minima.usual ≤ minima.greatest) × (minima.greatest ≤ 15)) }
     {
-        self.puzzle().row().minima
+        self.row().minima
     }
 
     /// The family of its tables; `None` where its scrambles need no table.
     pub fn family(self) -> Option<Family>
         ensures { result ≡ family_of self }
     {
-        self.puzzle().row().family
+        self.row().family
     }
 
-    /// Whether its states are tested by its table as they are drawn. (Those of others are tested by trying words.)
+    /// Whether its states are tested by its table as they are drawn.
     pub fn is_tested_by_table(self) -> bool
         ensures { result ≡ is_tested_by_table self }
     {
-        self.puzzle().row().tested_by_table
+        self.row().tested_by_table
     }
 
     /// How many layers the cube has whose net is shown, 2 to 7; `None` where none is.
@@ -207,7 +221,7 @@ impl Event {
         ensures value { result ≡ net_side_of self }
         ensures range { IfSome result (λ side. (2 ≤ side) × (side ≤ 7)) }
     {
-        self.puzzle().row().net_side
+        self.row().net_side
     }
 
     /// Its number, which is its place among the events, from 0.
@@ -224,12 +238,21 @@ impl Event {
         EVENTS.iter().copied().find(|event| event.id() == text)
     }
 
-    /// Its row in the table of events.
-    fn row(self) -> EventRow
+    /// What the tables have of it.
+    pub fn row(self) -> EventRow
         ensures id { result.id.now ≡ id_of self }
         ensures name { result.name.now ≡ name_of self }
         ensures puzzle { result.puzzle ≡ puzzle_of self }
         ensures per_group { result.per_group ≡ per_group_of self }
+        ensures few { result.per_group ≤ 5 }
+        ensures kind { result.kind ≡ kind_of self }
+        ensures depths { IsKind result.kind }
+        ensures minima { result.minima ≡ minima_of self }
+        ensures range { IfSome result.minima (λ minima. (minima.usual ≤ minima.greatest) × (minima.greatest ≤ 15)) }
+        ensures family { result.family ≡ family_of self }
+        ensures tested { result.tested_by_table ≡ is_tested_by_table self }
+        ensures side { result.net_side ≡ net_side_of self }
+        ensures sides { IfSome result.net_side (λ side. (2 ≤ side) × (side ≤ 7)) }
     {
         let (id, name, puzzle, per_group) = match self {
             Event::C222 => ("222", "2x2x2 Cube", Puzzle::Cube222, 5),
@@ -246,11 +269,17 @@ impl Event {
             Event::Bf333 => ("333bf", "3x3x3 Blindfolded", Puzzle::Held333, 3),
             Event::Fm333 => ("333fm", "3x3x3 Fewest Moves", Puzzle::Fewest333, 3),
         };
+        let row = puzzle.row();
         EventRow {
             id,
             name,
             puzzle,
             per_group,
+            kind: row.kind,
+            minima: row.minima,
+            family: row.family,
+            tested_by_table: row.tested_by_table,
+            net_side: row.net_side,
         }
     }
 }

@@ -32,7 +32,7 @@ mod turn;
 mod turned;
 mod turning;
 
-pub use event::{EVENTS, Event, Family, Kind, Minima, Puzzle};
+pub use event::{EVENTS, Event, EventRow, Family, Kind, Minima, Puzzle};
 pub use event_set::EventSet;
 pub use letters::{Axes, Faces, Letters};
 pub use numbered_word::NumberedWord;

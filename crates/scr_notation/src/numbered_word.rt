@@ -13,7 +13,7 @@ ghost use Rattle.scr_notation.specs.Written.{numbered_word, IsWritten};
 use crate::event::{Event, Kind};
 use crate::scramble::{MOST_TURNS, Scramble, push_turn};
 use crate::turn::{number_of, turn_at};
-use crate::turning::{back_number, merged_number};
+use crate::turning::merged_number;
 use arrayvec::ArrayVec;
 use std::marker::Model;
 
@@ -69,7 +69,7 @@ impl NumberedWord {
         let event = scramble.event();
         let mut word = NumberedWord::new(event);
         for turn in scramble.turns() {
-            word.push(number_of(event.kind(), *turn));
+            word.push(number_of(event.row().kind, *turn));
         }
         word
     }
@@ -111,7 +111,7 @@ impl NumberedWord {
         ensures value { result ≡ record { event = self.now.event; turns = tidy turn_merging self.now.turns } }
         ensures valid { IsWritten result }
     {
-        let kind = self.event.kind();
+        let kind = self.event.row().kind;
         let mut numbers = ArrayVec::new();
         for place in (0..self.numbers.len()).rev() {
             put_before(kind, &mut numbers, self.numbers[place]);
@@ -127,7 +127,7 @@ impl NumberedWord {
     pub fn scramble(&self) -> Scramble
         ensures { result ≡ self.now }
     {
-        let kind = self.event.kind();
+        let kind = self.event.row().kind;
         let mut scramble = Scramble::new(self.event);
         for number in self.numbers.as_slice() {
             push_turn(&mut scramble, turn_at(kind, *number));
@@ -139,11 +139,18 @@ impl NumberedWord {
     pub fn taken_back(&self) -> Scramble
         ensures { result ≡ record { event = self.now.event; turns = back opposite self.now.turns } }
     {
-        let kind = self.event.kind();
+        let kind = self.event.row().kind;
         let mut scramble = Scramble::new(self.event);
         for place in (0..self.numbers.len()).rev() {
-            let number = back_number(kind, self.numbers[place]);
-            push_turn(&mut scramble, turn_at(kind, number));
+            let number = self.numbers[place];
+            let opposite = match kind {
+                Kind::Faces { .. } => number - number % 3 + (2 - number % 3),
+                Kind::Axes { .. } => number - number % 2 + (1 - number % 2),
+                Kind::LayersAndTwist => 12 * ((22 - number / 12) % 12) + (22 - number % 12) % 12,
+                Kind::PinSets => number - number % 12 + (12 - number % 12) % 12,
+                Kind::WideTurns => number - number % 2 + (1 - number % 2),
+            };
+            push_turn(&mut scramble, turn_at(kind, opposite));
         }
         scramble
     }

@@ -74,7 +74,7 @@ fn read_turn(event: Event, word: &str) -> Option<Turn>
     ensures found { IfSome result (λ turn. IsTrue (permits event turn) × (spelling turn ≡ word.now)) }
     ensures none { IsNone result → IsSpelling event word.now → ⊥ }
 {
-    let kind = event.kind();
+    let kind = event.row().kind;
     let number = candidate(kind, word.as_bytes());
     if number >= turn_count(kind) {
         return None;

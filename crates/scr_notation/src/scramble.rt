@@ -80,7 +80,7 @@ impl Scramble {
         ensures refused { OnFalse result (self.new ≡ self.old) }
         ensures valid { IsWritten self.new }
     {
-        if self.turns.len() == MOST_TURNS || !is_of_kind(self.event.kind(), turn) {
+        if self.turns.len() == MOST_TURNS || !is_of_kind(self.event.row().kind, turn) {
             return false;
         }
         self.turns.push(turn);

@@ -5,7 +5,7 @@ ghost use Rattle.arrayvec.specs.ArrayString.{array_string_len};
 ghost use Rattle.scr_notation.specs.Layers.{is_twelfths};
 ghost use Rattle.scr_notation.specs.Pins.{pin_sets};
 ghost use Rattle.scr_notation.specs.Turns.{permits};
-ghost use Rattle.scr_notation.specs.Spelling.{letter_text, amount_text, layers_before, layers_behind, way_text, signed_text, name_of_set, hours_text, spelling};
+ghost use Rattle.scr_notation.specs.Spelling.{letter_text, layers_before, layers_behind, way_text, signed_text, name_of_set, hours_text, spelling};
 
 use crate::event::Event;
 use crate::turn::Turn;
@@ -36,15 +36,19 @@ pub(crate) fn spelled(event: Event, turn: Turn) -> ArrayString<7>
             text.push_str(if depth == 3 { "3" } else { "" });
             text.push(FACE_LETTERS[face as usize] as char);
             text.push_str(if depth == 1 { "" } else { "w" });
-            text.push_str(amount_name(4, amount));
+            match amount {
+                1 => {}
+                3 => text.push_str("'"),
+                _ => text.push_str("2"),
+            }
         }
         Turn::Axis { axis, amount } => {
             text.push(AXIS_LETTERS[axis as usize] as char);
-            text.push_str(amount_name(3, amount));
+            text.push_str(if amount == 1 { "" } else { "'" });
         }
         Turn::Tip { tip, amount } => {
             text.push(TIP_LETTERS[tip as usize] as char);
-            text.push_str(amount_name(3, amount));
+            text.push_str(if amount == 1 { "" } else { "'" });
         }
         Turn::Layers { top, bottom } => {
             text.push_str("(");
@@ -65,20 +69,6 @@ pub(crate) fn spelled(event: Event, turn: Turn) -> ArrayString<7>
         }
     }
     text
-}
-
-/// How an amount is written, of which `order` make a whole turn.
-fn amount_name(order: u8, amount: u8) -> &'static str
-    ensures value { result.now ≡ amount_text order amount }
-    ensures short { length result.now ≤ 1 }
-{
-    if amount == 1 {
-        ""
-    } else if amount as u16 + 1 == order as u16 {
-        "'"
-    } else {
-        "2"
-    }
 }
 
 /// How the way of a wide turn is written.

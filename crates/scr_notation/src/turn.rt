@@ -51,7 +51,7 @@ impl Turn {
     pub fn is_of(self, event: Event) -> bool
         ensures { result ≡ permits event self }
     {
-        is_of_kind(event.kind(), self)
+        is_of_kind(event.row().kind, self)
     }
 }
 

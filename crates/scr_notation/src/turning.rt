@@ -37,22 +37,6 @@ pub fn tidy(scramble: &Scramble) -> Scramble
     NumberedWord::of_scramble(scramble).tidied().scramble()
 }
 
-/// The number of the turn that undoes the turn with this number.
-pub(crate) fn back_number(kind: Kind, number: u8) -> u8
-    requires kind { IsKind kind }
-    requires below { number < turn_count kind }
-    ensures turn { turn_at kind result ≡ opposite (turn_at kind number) }
-    ensures below { result < turn_count kind }
-{
-    match kind {
-        Kind::Faces { .. } => number - number % 3 + (2 - number % 3),
-        Kind::Axes { .. } => number - number % 2 + (1 - number % 2),
-        Kind::LayersAndTwist => 12 * ((22 - number / 12) % 12) + (22 - number % 12) % 12,
-        Kind::PinSets => number - number % 12 + (12 - number % 12) % 12,
-        Kind::WideTurns => number - number % 2 + (1 - number % 2),
-    }
-}
-
 /// What two turns come to where they are neighbours: `None` where they stay as they are, else the number of the one turn
 /// that is left of them, if one is. Turns are merged that are of one face and as many of its layers, of a Square-1's
 /// layers, or twists.

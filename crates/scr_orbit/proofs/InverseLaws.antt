@@ -1,5 +1,5 @@
 -- The inverse of an orbit: that it is one, and what it keeps.
-use Rattle.std.proofs.Common.{◌≡◌, ℕ, suc, ◌+◌, ◌-◌, ◌%◌, ◌<◌, List, [], ◌∷◌, length, map, get_or, refl, sym, ap, ◌∙◌, arith, lit<}
+use Rattle.std.proofs.Common.{◌≡◌, ℕ, suc, ◌+◌, ◌-◌, ◌%◌, ◌<◌, List, [], ◌∷◌, length, map, get_or, refl, sym, ap, ◌∙◌, subst, arith, lit<}
 use Rattle.std.specs.Prelude.{All}
 use Rattle.std.proofs.Math.Nat.{add-mod-mod, mod_self, mod-eq_of_lt}
 use Rattle.std.proofs.lemmas.Nat.{mod_below}
@@ -103,12 +103,22 @@ opposite-digit m d some lt = let less : m - d < m = omega arith in sym (mod-eq_o
 pub opposite-zero : (m d : ℕ) → d ≡ 0 → 0 ≡ (m - d) % m
 opposite-zero m d e = let all : m - d ≡ m = omega (arith, e) in sym (ap (λ z. z % m) all ∙ mod_self m)
 
--- an orbit that is inverted list by list
-pub inverted_by_lists : (m : ℕ) (o : Orbit) (pieces digits : List ℕ) → pieces ≡ inverse o.pieces
-    → digits ≡ opposite_digits m (pick o.digits pieces)
+-- an orbit that is inverted place by place
+pub inverted_by_places : (n m : ℕ) (o : Orbit) (pieces digits : List ℕ) → IsOrbit n m o → length pieces ≡ n
+    → length digits ≡ n → ((k : ℕ) → k < n → get_or pieces (get_or o.pieces k 0) 0 ≡ k)
+    → ((k : ℕ) → k < n → get_or digits (get_or o.pieces k 0) 0 ≡ (m - get_or o.digits k 0) % m)
     → record { pieces = pieces; digits = digits } ≡ inverse_orbit m o
 unfolding inverse_orbit
-inverted_by_lists m o pieces digits a b = same_orbit _ _ a (b ∙ ap (λ ks. opposite_digits m (pick o.digits ks)) a)
+inverted_by_places n m o pieces digits h long_pieces long_digits each_piece each_digit =
+    let xs = o.pieces in
+    let size : length xs ≡ n = h.pieces.size in
+    let own = subst (λ k. IsPermutation k xs) (sym size) h.pieces in
+    same_orbit _ _ (inverse_by_places xs pieces own (long_pieces ∙ sym size) (λ k lt. each_piece k (omega (arith, lt, size))))
+    (opposite_by_places m o.digits (inverse xs) digits (long_digits ∙ sym (length-inverse xs ∙ size)) (λ v lt.
+    let inside : v < n = omega (arith, lt, length-inverse xs, size) in
+    let there : 0 < occurrences v xs = omega (arith, h.pieces.once v inside) in
+    ap (λ i. get_or digits i 0) (sym (at-place_of v xs there)) ∙ each_digit (place_of v xs) (omega (arith, place_of-lt v xs there, size))
+    ∙ ap (λ i. (m - get_or o.digits i 0) % m) (sym (inverse-at n xs size v inside))))
 
 -- ---- what the inverse keeps
 

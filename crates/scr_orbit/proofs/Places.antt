@@ -11,7 +11,8 @@ use Rattle.scr_orbit.specs.PlaceTurns.{made_by}
 use Rattle.scr_combinatorics.specs.Lists.{occurrences, total, pick}
 use Rattle.scr_combinatorics.proofs.Counts.{occurrences-at, one_if-other}
 use Rattle.scr_combinatorics.proofs.Picks.{length-pick, pick-at, All-pick}
-use Rattle.scr_orbit.specs.Orbits.{Orbit, added_digits, turned_orbit}
+use Rattle.scr_orbit.specs.Orbits.{Orbit, turned_orbit}
+use Rattle.scr_orbit.proofs.DigitLaws.{added_digits_by_places}
 use Rattle.scr_orbit.proofs.OrbitLaws.{same_orbit}
 use Rattle.scr_orbit.proofs.Parts.{IsMadeAt}
 
@@ -54,13 +55,21 @@ total-take_suc [] k lt = absurd (omega arith)
 total-take_suc (x ∷ xs) zero lt = omega arith
 total-take_suc (x ∷ xs) (suc k) lt = omega (arith, total-take_suc xs k (omega arith))
 
--- ---- an orbit that is turned list by list
+-- ---- orbits after turns
 
-pub turned_by_lists : (m : ℕ) (o r : Orbit) (pieces picked digits : List ℕ)
-    → pieces ≡ pick o.pieces r.pieces → picked ≡ pick o.digits r.pieces → digits ≡ added_digits m picked r.digits
+-- what a turn makes of an orbit, place by place
+pub turned_by_places : (n m : ℕ) (o r : Orbit) (pieces digits : List ℕ) → length pieces ≡ n → length digits ≡ n
+    → length r.pieces ≡ n → length r.digits ≡ n
+    → ((k : ℕ) → k < n → get_or pieces k 0 ≡ get_or o.pieces (get_or r.pieces k 0) 0)
+    → ((k : ℕ) → k < n → get_or digits k 0 ≡ (get_or o.digits (get_or r.pieces k 0) 0 + get_or r.digits k 0) % m)
     → record { pieces = pieces; digits = digits } ≡ turned_orbit m o r
 unfolding turned_orbit
-turned_by_lists m o r pieces picked digits a b c = same_orbit _ _ a (c ∙ ap (λ xs. added_digits m xs r.digits) b)
+turned_by_places n m o r pieces digits long_pieces long_digits long_places long_added each_piece each_digit =
+    let picked = pick o.digits r.pieces in
+    let size : length picked ≡ n = length-pick o.digits r.pieces ∙ long_places in
+    same_orbit _ _ (pick_by_places o.pieces r.pieces pieces (long_pieces ∙ sym long_places) (λ k lt. each_piece k (omega (arith, lt, long_places))))
+    (added_digits_by_places m digits picked r.digits (long_digits ∙ sym size) (size ∙ sym long_added) (λ k lt.
+    each_digit k (omega (arith, lt, size)) ∙ ap (λ d. (d + get_or r.digits k 0) % m) (sym (pick-at o.digits r.pieces k (omega (arith, lt, size, long_places))))))
 
 -- what is picked of digits below m is below m
 pub picked_below : (m : ℕ) (ds places picked : List ℕ) → All (λ d. d < m) ds → All (λ k. k < length ds) places

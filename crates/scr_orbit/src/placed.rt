@@ -3,7 +3,6 @@ ghost use Rattle.std.specs.Prelude.{◌≡◌, ◌≤◌, ◌<◌, ◌↔◌, Is
 ghost use Rattle.scr_orbit.specs.Monoids.{IsInverse};
 ghost use Rattle.scr_orbit.specs.Orbits.{IsOrbit, IsZeroSumOrbit, orbit_monoid, turned_orbit};
 
-use crate::turning::{add_digits, inverse_into, opposite_into, pick_into};
 use crate::validity::{are_twists, is_permutation};
 use std::marker::Model;
 
@@ -75,9 +74,12 @@ impl<const N: usize> Placed<N> {
     {
         let mut pieces = [0; N];
         let mut digits = [0; N];
-        pick_into(&self.pieces[..], &turn.places[..], &mut pieces[..]);
-        pick_into(&self.digits[..], &turn.places[..], &mut digits[..]);
-        add_digits(&mut digits[..], &turn.added[..], modulus);
+        for place in 0..N {
+            let from = usize::from(turn.places[place]);
+            let sum = self.digits[from] + turn.added[place];
+            pieces[place] = self.pieces[from];
+            digits[place] = if sum < modulus { sum } else { sum - modulus };
+        }
         Placed { pieces, digits }
     }
 
@@ -106,8 +108,12 @@ impl<const N: usize> Placed<N> {
     {
         let mut pieces = [0; N];
         let mut digits = [0; N];
-        inverse_into(&self.pieces[..], &mut pieces[..]);
-        opposite_into(&self.digits[..], &pieces[..], modulus, &mut digits[..]);
+        for place in 0..N {
+            let to = usize::from(self.pieces[place]);
+            let digit = self.digits[place];
+            pieces[to] = place as u8;
+            digits[to] = if digit == 0 { 0 } else { modulus - digit };
+        }
         Placed { pieces, digits }
     }
 

@@ -3,7 +3,6 @@
 ghost use Rattle.std.specs.Prelude.{◌≡◌, ◌^◌, ◌<◌, ◌↔◌, Contains, IsTrue};
 ghost use Rattle.scr_outside.specs.Memory.{no_calls, one_more, failed, NextFails};
 
-use crate::faults::raised;
 use std::marker::Model;
 
 /// How many calls there were, which of them fail, and how many failed. Both counts stay at 2^64 - 1.
@@ -43,7 +42,7 @@ impl Calls {
         ensures counted { self.new ≡ one_more self.old }
         ensures at_most { self.new.faults < 2 ^ 64 }
     {
-        self.made = raised(self.made);
+        self.made = self.made.saturating_add(1);
         stands_in(&self.fails, self.made)
     }
 
@@ -52,7 +51,7 @@ impl Calls {
         ensures failed { self.new ≡ failed self.old }
         ensures at_most { self.new.faults < 2 ^ 64 }
     {
-        self.faults = raised(self.faults);
+        self.faults = self.faults.saturating_add(1);
     }
 }
 

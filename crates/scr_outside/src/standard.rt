@@ -8,7 +8,7 @@ ghost use Rattle.scr_outside.specs.Change.{Gains, Gives, Fails};
 ghost use Rattle.scr_outside.specs.Faults.{raised, ends_told};
 ghost use Rattle.scr_outside.specs.Standard.{Adapted, reader_change, writer_change};
 
-use crate::faults::{ends_told, raised};
+use crate::faults::ends_told;
 use crate::sink::{Failed, Sink};
 use crate::source::Source;
 use std::io::{Read, Write};
@@ -79,7 +79,7 @@ impl<R: Read + Drop> Source for Adapter<R> {
                 Ok(n)
             }
             Err(_) => {
-                self.faults = raised(self.faults);
+                self.faults = self.faults.saturating_add(1);
                 Err(Failed)
             }
         }
@@ -107,7 +107,7 @@ impl<W: Write + Drop> Sink for Adapter<W> {
         match self.inner.write(piece) {
             Ok(n) if 0 < n => Ok(n),
             _ => {
-                self.faults = raised(self.faults);
+                self.faults = self.faults.saturating_add(1);
                 Err(Failed)
             }
         }

@@ -38,7 +38,7 @@ pub fn slots(round: &Round) -> u32
     ensures count { result ≡ slots_of round.now }
     ensures few { result ≤ 182 }
 {
-    u32::from(round.groups) * (u32::from(round.event.per_group()) + 2)
+    u32::from(round.groups) * (u32::from(round.event.row().per_group) + 2)
 }
 
 /// How many lines a round has, whichever its place in the list: at most 235.
@@ -47,7 +47,7 @@ pub fn line_count(round: &Round) -> u32
     ensures count { (k : ℕ) → length (round_lines k round.now) ≡ result }
     ensures few { result ≤ 235 }
 {
-    1 + u32::from(round.groups) * (u32::from(round.event.per_group()) + 4)
+    1 + u32::from(round.groups) * (u32::from(round.event.row().per_group) + 4)
 }
 
 /// Line number `line`, from 0, of round `index` of a list, counted from 0 too.
@@ -61,7 +61,7 @@ pub fn line_at(index: u32, round: &Round, line: u32) -> SheetLine
     if line == 0 {
         return SheetLine::Fixed(heading(index, round));
     }
-    let own = u32::from(round.event.per_group());
+    let own = u32::from(round.event.row().per_group);
     let size = own + 4;
     let group = (line - 1) / size;
     let place = (line - 1) % size;
@@ -86,8 +86,9 @@ pub fn heading(index: u32, round: &Round) -> ArrayString<FIXED_ROOM>
     head.push_str("Round ");
     head.push_str(decimal(index + 1).as_str());
     head.push_str(": ");
-    head.push_str(round.event.name());
-    push_minimum(&mut head, round.event.minima(), round.least);
+    let row = round.event.row();
+    head.push_str(row.name);
+    push_minimum(&mut head, row.minima, round.least);
     if !round.name.is_empty() {
         head.push_str(", ");
         head.push_str(round.name.as_str());

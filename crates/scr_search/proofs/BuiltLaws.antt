@@ -11,7 +11,7 @@ use Rattle.scr_table.specs.Lines.{TableLine}
 use Rattle.scr_search.specs.declared.outlook.Outlook.{Outlook}
 use Rattle.scr_search.specs.declared.position.Extent.{Extent}
 use Rattle.scr_search.specs.declared.pruning.PruningTable.{PruningTable}
-use Rattle.scr_search.specs.Outlooks.{AreOutlooks, AreOutlooksOf}
+use Rattle.scr_search.specs.Outlooks.{AreOutlooks, AreOutlooksOf, HasNearer}
 use Rattle.scr_search.specs.Views.{beside}
 
 -- ---- two coordinates side by side, in either order
@@ -49,13 +49,13 @@ AreOutlooks-none c distances all none = record { each = λ p o at there. absurd 
 AreOutlooks-same : (c shown : Coordinate) → StaysBelow c → ShowsSame c shown
     → (distances : List ℕ) (all : List Outlook) → AreOutlooks shown distances all → AreOutlooks c distances all
 AreOutlooks-same c shown below same distances all o = record {
-  each = λ p outlook at there. record {
-    leaves = λ left. record {
-      kept = λ t q few to here lt.
-          ((o.each p outlook (subst (λ n. p < n) (sym same.count) at) there).leaves left).kept t q few
-          ((Follows-same c shown below same).turned p t at ∙ ap (option_map (λ n. n)) to) here lt;
-    };
-  };
+  each = λ p outlook at there.
+      let is = o.each p outlook (subst (λ n. p < n) (sym same.count) at) there in
+      let of : (left bits : ℕ) → HasNearer shown distances p left bits → HasNearer c distances p left bits =
+      λ left bits h. record {
+        kept = λ t q few to here lt. h.kept t q few ((Follows-same c shown below same).turned p t at ∙ ap (option_map (λ n. n)) to) here lt;
+      } in
+      record { far = is.far; near = of _ _ is.near; level = of _ _ is.level };
 }
 
 -- Those that are found over what shows a line's coordinate are those of its table, by either name of what the line is

@@ -1,11 +1,11 @@
 -- Where words lead.
 use Rattle.std.proofs.Common.{◌≡◌, ℕ, ◌<◌, Bool, true, false, List, [], ◌∷◌, ◌++◌, length, get_or, slice_index, Option, Some}
-use Rattle.std.proofs.Common.{None, inl, inr, refl, sym, ap, ◌∙◌}
-use Rattle.std.specs.Prelude.{All, option_and_then}
+use Rattle.std.proofs.Common.{None, inl, inr, refl, sym, ap, ◌∙◌, subst}
+use Rattle.std.specs.Prelude.{All, option_and_then, slice_get}
 use Rattle.std.specs.Option.{option_map_or}
 use Rattle.std.proofs.lemmas.Bool.{cases_lt, false≢true}
-use Rattle.std.proofs.lemmas.List.Elements.{All-head, All-tail}
-use Rattle.std.proofs.lemmas.Option.{same_Some, slice_get-get_or}
+use Rattle.std.proofs.lemmas.List.Elements.{All-cons, All-head, All-nil, All-tail}
+use Rattle.std.proofs.lemmas.Option.{get_or_from_slice_get, same_Some, slice_get-get_or, slice_get_within}
 use Rattle.scr_combinatorics.specs.Lists.{pick}
 use Rattle.scr_combinatorics.specs.Play.{play}
 use Rattle.scr_combinatorics.proofs.PlayLaws.{play-append, play-one, play-parts}
@@ -79,6 +79,17 @@ turn-below c d t e =
       | inl lt ↦ lt
       | inr le ↦ absurd (no_state (after_turn c t) d (lawful_cube.no_more c t le) e)
     ]
+
+-- so the turns of a word that is played are turns of the 18
+pub played-below : (c d : CubeState) (w : List ℕ) → play after_turn c w ≡ Some d → All (λ t. t < 18) w
+played-below c d [] e = All-nil (λ t. t < 18)
+played-below c d (t ∷ w) e =
+    let parts = play-parts after_turn c d t w e in
+    All-cons (λ t. t < 18) t w (turn-below c parts.0 t parts.1) (played-below parts.0 d w parts.2)
+
+pub played-at : (c d : CubeState) (w : List ℕ) (k t : ℕ) → play after_turn c w ≡ Some d → slice_get w k ≡ Some t → t < 18
+played-at c d w k t played e =
+    subst (λ x. x < 18) (get_or_from_slice_get w k t 0 e) (played-below c d w played k 0 (slice_get_within w k t e))
 
 -- and where: to what the turn with the number makes of the cube
 pub after_turn-is : (c d : CubeState) (t : ℕ) → after_turn c t ≡ Some d

@@ -1,9 +1,10 @@
 -- Which turns keep the words of a part that go on from a word, and what the words by these turns are.
 use Rattle.std.proofs.Common.{◌≡◌, ℕ, zero, suc, ◌+◌, ◌-◌, ◌^◌, ◌<◌, ◌≤◌, Bool, true, false, cond, List, [], ◌∷◌, ◌++◌, length, map, get_or, Some, inl, inr, refl, sym, ap, ◌∙◌, subst, append_assoc, arith}
-use Rattle.std.specs.Prelude.{Contains, filter, ◌&&◌, ◌==◌}
+use Rattle.std.specs.Prelude.{All, Contains, filter, ◌&&◌, ◌==◌}
 use Rattle.std.specs.List.{flat_map}
 use Rattle.std.proofs.lemmas.Bool.{and_parts, and_from, cases_lt, false≢true}
 use Rattle.std.proofs.lemmas.List.{get_or_default}
+use Rattle.std.proofs.lemmas.List.Elements.{All-head, All-tail}
 use Rattle.std.proofs.lemmas.Nat.Bits.{bit_at_above}
 use Rattle.scr_combinatorics.specs.Lists.{numbers_from, pick}
 use Rattle.scr_combinatorics.proofs.Picks.{pick-in_order, numbers_from-at, length-numbers_from}
@@ -59,6 +60,12 @@ below_count bits n place small is =
       | inr above ↦ absurd (false≢true (sym (ap (λ b. b == 1) (bit_at_above bits n place small above)) ∙ is))
     ]
 
+-- what is below a limit at each place of a list is so at any number
+pub any_place : (limit : ℕ) (xs : List ℕ) (k : ℕ) → 0 < limit → All (λ x. x < limit) xs → get_or xs k 0 < limit
+any_place limit [] k some h = some
+any_place limit (x ∷ xs) zero some h = All-head (λ y. y < limit) x xs h
+any_place limit (x ∷ xs) (suc k) some h = any_place limit xs k some (All-tail (λ y. y < limit) x xs h)
+
 -- ---- whole words
 
 whole-parts : (v : Views) (c : CubeState) (word : List ℕ) → is_whole v c word ≡ true
@@ -111,10 +118,10 @@ module _ {v : Views} {c : CubeState} {word : List ℕ} {at : PartPosition} (h : 
     }
 
     -- of turns that keep the ways those with which a near set leaves them
-    pub KeepsWays-near : {near : ℕ} → LeavesNear v.turns v.ends h.there (left - 1) bits near → KeepsWays v c word left bits
+    pub KeepsWays-near : {near more : ℕ} → left - 1 ≡ more → LeavesNear v.turns v.ends h.there more bits near → KeepsWays v c word left bits
         → KeepsWays v c word left near
-    KeepsWays-near leaves keeps = record {
-      kept = λ place w lt listed whole. leaves.left place w lt listed (way_on (get_or v.turns place 0 ∷ w) whole) (keeps.kept place w lt listed whole);
+    KeepsWays-near one_less leaves keeps = record {
+      kept = λ place w lt listed whole. leaves.left place w lt (subst (λ n. Contains (words_of v.turns n) w) one_less listed) (way_on (get_or v.turns place 0 ∷ w) whole) (keeps.kept place w lt listed whole);
       follow = λ place is. keeps.follow place (leaves.among place is);
     }
 

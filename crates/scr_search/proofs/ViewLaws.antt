@@ -10,7 +10,8 @@ use Rattle.scr_cube.specs.Cube333.{CubeState}
 use Rattle.scr_cube.specs.ListedTurns.{cube_space, after_of}
 use Rattle.scr_search.specs.declared.position.Extent.{Extent}
 use Rattle.scr_search.specs.Orderly.{after_turn}
-use Rattle.scr_search.specs.Views.{AreViews, Sees, View, Views, part_number, view_beside}
+use Rattle.scr_search.specs.declared.position.PartPosition.{PartPosition}
+use Rattle.scr_search.specs.Views.{AreViews, Sees, Shows, View, Views, index_beside, part_number, view_beside}
 use Rattle.scr_search.proofs.Leads.{after_of-place}
 
 -- ---- views
@@ -100,3 +101,22 @@ module _ (v : Views) (e : Extent) (are : AreViews v e) (c : CubeState) (h : v.Is
       let times : other * e.ones ≡ v.one.coordinate.count * v.other.number c =
       ap (λ k. k * e.ones) b ∙ ap (λ k. v.other.number c * k) (sym are.counts.0) ∙ omega arith in
       omega (arith, few, times, a)
+
+-- ---- positions in pruning tables
+
+index-shown : (b : Bool) (own middle : View) (c : CubeState) (owns middles i j k : ℕ) → own.coordinate.count ≡ owns
+    → middle.coordinate.count ≡ middles → i ≡ own.number c → j ≡ middle.number c → k ≡ index_beside b owns middles i j
+    → k ≡ (view_beside b own middle).number c
+index-shown b own middle c owns middles i j k few few_middle one other is =
+    is ∙ ap (λ n. index_beside b n middles i j) (sym few) ∙ ap (λ n. index_beside b own.coordinate.count n i j) (sym few_middle)
+    ∙ ap (λ n. index_beside b own.coordinate.count middle.coordinate.count n j) one
+    ∙ ap (index_beside b own.coordinate.count middle.coordinate.count (own.number c)) other
+
+module _ {v : Views} {e : Extent} (are : AreViews v e) {c : CubeState} {at : PartPosition} (h : Shows v c at) where
+  pub one-shown : (k : ℕ) → k ≡ index_beside e.middle_first e.ones e.middles at.one at.middle
+      → k ≡ (view_beside e.middle_first v.one v.middle).number c
+  one-shown k is = index-shown e.middle_first v.one v.middle c e.ones e.middles at.one at.middle k are.counts.0 are.counts.2 h.one h.middle is
+
+  pub other-shown : (k : ℕ) → k ≡ index_beside e.middle_first e.others e.middles at.other at.middle
+      → k ≡ (view_beside e.middle_first v.other v.middle).number c
+  other-shown k is = index-shown e.middle_first v.other v.middle c e.others e.middles at.other at.middle k are.counts.1 are.counts.2 h.other h.middle is

@@ -1,5 +1,5 @@
 -- Which turns may go on a word of so many turns to the goal of a pruning table.
-use Rattle.std.specs.Prelude.{◌≡◌, ℕ, ◌+◌, ◌-◌, ◌/◌, ◌%◌, ◌^◌, ◌<◌, ◌≤◌, ◌==◌, nat_lt, true, IsTrue, if◌then◌else◌, List, slice_get, slice_index, Some}
+use Rattle.std.specs.Prelude.{◌≡◌, ℕ, ◌+◌, ◌/◌, ◌%◌, ◌^◌, ◌<◌, ◌≤◌, true, IsTrue, List, slice_get, slice_index, Some}
 use Rattle.scr_positions.specs.Coordinates.{Coordinate, moved}
 use Rattle.scr_table.specs.Lines.{TableLine, IsTableOf}
 use Rattle.scr_search.specs.declared.outlook.Outlook.{Outlook}
@@ -7,23 +7,18 @@ use Rattle.scr_search.specs.declared.outlook.Found.{Found}
 use Rattle.scr_search.specs.declared.pruning.PruningTable.{PruningTable}
 use Rattle.scr_search.specs.TurnSets.{contains_turn}
 
--- The turns that an outlook leaves where so many turns may still be made: none, if the goal is farther; those that lead
--- nearer, if it is as far as that; those that lead no farther, if it is nearer by one; else all.
-unfoldable pub turns_within : Outlook → ℕ → ℕ
-turns_within o left =
-    if nat_lt left (o.nearer / 2 ^ 18) then 0
-    else (if left == o.nearer / 2 ^ 18 then o.nearer % 2 ^ 18
-    else (if left == o.nearer / 2 ^ 18 + 1 then o.no_farther % 2 ^ 18 else 2 ^ 18 - 1))
-
 -- Where the goal is no farther from a position than so many turns, a set has each of the 18 turns that leads from there
 -- to where the table has fewer.
 pub record HasNearer (c : Coordinate) (distances : List ℕ) (p left bits : ℕ) : Type 0 where
   pub kept : (t q : ℕ) → t < 18 → moved c p t ≡ Some q → slice_index distances p ≤ left
       → slice_index distances q < left → IsTrue (contains_turn bits t)
 
--- An outlook of a position leaves such a set, whatever number of turns may still be made.
+-- An outlook of a position says how far the goal is, and leaves such a set where so many turns may still be made, and
+-- where one more may be.
 pub record IsOutlook (c : Coordinate) (distances : List ℕ) (p : ℕ) (o : Outlook) : Type 0 where
-  pub leaves : (left : ℕ) → HasNearer c distances p left (turns_within o left)
+  pub far : o.nearer / 2 ^ 18 ≡ slice_index distances p
+  pub near : HasNearer c distances p (o.nearer / 2 ^ 18) (o.nearer % 2 ^ 18)
+  pub level : HasNearer c distances p (o.nearer / 2 ^ 18 + 1) (o.no_farther % 2 ^ 18)
 
 -- Of the turns below a number those that lead nearer than the position is are found, and those that lead no farther.
 pub record AreFound (c : Coordinate) (distances : List ℕ) (p turn : ℕ) (found : Found) : Type 0 where

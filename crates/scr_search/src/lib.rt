@@ -23,14 +23,12 @@ mod pruning;
 mod search;
 mod search_tables;
 mod turn_set;
-mod word;
 
 pub use near_set::{NEAR, NearBlock, NearSet};
 pub use outlook::Outlook;
-pub use part::Part;
+pub use part::{Part, Word};
 pub use position::{BLOCK, Extent, PartPosition};
 pub use pruning::PruningTable;
 pub use search::Search;
 pub use search_tables::SearchTables;
 pub use turn_set::TurnSet;
-pub use word::Word;

@@ -114,33 +114,6 @@ impl NearSet {
         let second = word >> seat.second & 1;
         first & second == 1
     }
-
-    /// Of some turns those that lead from a position to a number that it has.
-    #[inline]
-    pub(crate) fn turns_into<P: Part>(
-        &self,
-        tables: &SearchTables<P>,
-        at: PartPosition,
-        turns: TurnSet,
-    ) -> TurnSet
-        requires views { AreViews P.views P.extent }
-        requires few { turns.bits < 2 ^ 18 }
-        requires below { (place : ℕ) → IsTrue (contains_turn turns.bits place) → place < length P.views.turns }
-        ensures left { (c : CubeState) (more : ℕ) → IsNear P.views more (IsInSet self.now) → Shows P.views c at
-            → LeavesNear P.views.turns P.views.ends c more turns.bits result.bits }
-        ensures few { result.bits < 2 ^ 18 }
-    {
-        if self.blocks.is_empty() {
-            return turns;
-        }
-        let mut others = turns;
-        let mut into = TurnSet::NONE;
-        while let Some(place) = others.pop() {
-            let next = SearchTables::<P>::number_of(tables.after(at, place));
-            into = into.with_if(place, self.has(next));
-        }
-        into
-    }
 }
 
 impl Numbers for NearBlock {

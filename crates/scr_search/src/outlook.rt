@@ -3,16 +3,13 @@ ghost use Rattle.std.specs.Prelude.{◌≡◌, ℕ, ◌+◌, ◌-◌, ◌^◌, �
 ghost use Rattle.scr_positions.specs.Coordinates.{AreSeen};
 ghost use Rattle.scr_search.specs.declared.outlook.Found.{Found as Finding};
 ghost use Rattle.scr_search.specs.declared.outlook.Outlook.{Outlook as Looking};
-ghost use Rattle.scr_search.specs.Outlooks.{turns_within, AreFound, IsOutlook, AreOutlooks};
+ghost use Rattle.scr_search.specs.Outlooks.{AreFound, IsOutlook, AreOutlooks};
 
 use crate::turn_set::TurnSet;
 use scr_positions::{Coord, NOWHERE};
 use scr_table::{DistanceTable, GREATEST_BOUND};
 use std::alloc::{AllocError, Global};
 use std::thread::{Threads, for_each_chunk_mut};
-
-/// The bits of all turns.
-const TURNS: u32 = 0x3_ffff;
 
 /// What a pruning table says of the turns from a position.
 #[derive(Clone, Copy)]
@@ -21,31 +18,6 @@ pub struct Outlook {
     pub nearer: u32,
     /// The turns that lead no farther, each a bit at its number.
     pub no_farther: u32,
-}
-
-impl Outlook {
-    /// The turns of which one may be the next where `left` turns may still be made.
-    #[inline]
-    #[tactic(auto, unfolding(crate::specs::Outlooks::turns_within))]
-    pub fn turns_within(self, left: u32) -> TurnSet
-        ensures turns { result.bits ≡ turns_within self left }
-        ensures few { result.bits < 2 ^ 18 }
-    {
-        let distance = self.nearer >> 18;
-        if left < distance {
-            TurnSet::NONE
-        } else if left == distance {
-            TurnSet {
-                bits: self.nearer & TURNS,
-            }
-        } else if left == distance + 1 {
-            TurnSet {
-                bits: self.no_farther & TURNS,
-            }
-        } else {
-            TurnSet::ALL
-        }
-    }
 }
 
 /// How many positions are looked at together, turn by turn.

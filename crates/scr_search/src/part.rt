@@ -1,11 +1,14 @@
 //! Parts of the solution of a cube.
 
 use crate::position::Extent;
-use crate::word::Word;
+use arrayvec::ArrayVec;
 use scr_cube::Cube;
 use scr_outside::NoMemory;
 use scr_positions::MoveTable;
 use std::alloc::Global;
+
+/// A word of at most 22 turns, those of two parts, told by their numbers.
+pub type Word = ArrayVec<u8, 22>;
 
 /// A part of the solution of a cube: its turns, its coordinates, how many these are in numbers, and what its whole
 /// words give. It is a type without values.
@@ -49,10 +52,10 @@ pub trait Part: Copy {
 
     /// Makes of a whole word what it gives, if it gives anything.
     fn give(rest: &Self::Rest, cube: &Cube, word: &mut Word) -> bool
-        requires whole { IsAtEnd views cube.now word.old }
-        requires few { length word.old ≤ views.before + extent.most }
-        ensures given { gives cube.now word.old ≡ (if result then Some word.new else None) }
-        ensures same { result ≡ false → word.new ≡ word.old };
+        requires whole { IsAtEnd views cube.now word.old.items }
+        requires few { length word.old.items ≤ views.before + extent.most }
+        ensures given { gives cube.now word.old.items ≡ (if result then Some word.new.items else None) }
+        ensures same { result ≡ false → word.new.items ≡ word.old.items };
 
     /// Words are no longer than those of two parts.
     ghost short: { views.before + extent.most ≤ 22 };

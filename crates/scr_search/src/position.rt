@@ -1,4 +1,7 @@
 //! Positions of a part, and how many there are.
+ghost use Rattle.std.specs.Prelude.{◌≡◌, ◌*◌, ◌^◌, ◌<◌};
+ghost use Rattle.scr_search.specs.Views.{index_beside};
+
 use crate::turn_set::TurnSet;
 use scr_table::TableName;
 
@@ -48,4 +51,23 @@ pub struct Extent {
     pub other_table: TableName,
     /// How far they may reach, in turns.
     pub bound: u32,
+}
+
+impl Extent {
+    /// The position in a pruning table for one in a coordinate of the part's own, which has `owns` of them, and one in
+    /// the middle layer's.
+    #[inline]
+    pub(crate) fn index(&self, owns: u32, own: u32, middle: u32) -> u32
+        requires own { own < owns }
+        requires middle { middle < self.now.middles }
+        requires fits { owns * self.now.middles < 2 ^ 32 }
+        ensures index { result ≡ index_beside self.now.middle_first owns self.now.middles own middle }
+        ensures below { result < owns * self.now.middles }
+    {
+        if self.middle_first {
+            middle + self.middles * own
+        } else {
+            own + owns * middle
+        }
+    }
 }

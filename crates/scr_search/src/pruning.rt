@@ -6,7 +6,7 @@ ghost use Rattle.scr_positions.specs.SearchSpaces.{ShowsSame};
 ghost use Rattle.scr_table.specs.Causes.{IsCause};
 ghost use Rattle.scr_table.specs.Lines.{TableLine};
 ghost use Rattle.scr_search.specs.Outlooks.{HasNearer, IsPruningTable};
-ghost use Rattle.scr_search.specs.Views.{beside, index_beside};
+ghost use Rattle.scr_search.specs.Views.{beside};
 
 use crate::outlook::Outlook;
 use crate::turn_set::TurnSet;
@@ -14,6 +14,9 @@ use scr_positions::{Coord, MoveTable, Product};
 use scr_table::{BuildFault, DistanceTable, GREATEST_BOUND, TableName};
 use std::alloc::Global;
 use std::thread::Threads;
+
+/// The bits of all turns.
+const TURNS: u32 = TurnSet::ALL.bits;
 
 /// A distance table, with the outlook of each position once these are found.
 #[derive(Drop)]
@@ -59,11 +62,23 @@ impl PruningTable {
             → HasNearer line.coordinate self.now.distances.distances position left result.bits }
         ensures few { result.bits < 2 ^ 18 }
     {
-        match self.outlooks.get(position as usize) {
-            Some(outlook) => outlook.turns_within(left),
-            None if left < self.distances.distance(position) => TurnSet::NONE,
-            None => TurnSet::ALL,
-        }
+        let Some(outlook) = self.outlooks.get(position as usize) else {
+            if left < self.distances.distance(position) {
+                return TurnSet::NONE;
+            }
+            return TurnSet::ALL;
+        };
+        let distance = outlook.nearer >> 18;
+        let bits = if left < distance {
+            0
+        } else if left == distance {
+            outlook.nearer & TURNS
+        } else if left == distance + 1 {
+            outlook.no_farther & TURNS
+        } else {
+            TURNS
+        };
+        TurnSet { bits }
     }
 }
 
@@ -83,27 +98,5 @@ pub(crate) fn beside<'a>(
         Product::new(middle, own)
     } else {
         Product::new(own, middle)
-    }
-}
-
-/// The position that stands there for one of each, where they have so many.
-#[inline]
-pub(crate) fn index_beside(
-    middle_first: bool,
-    owns: u32,
-    middles: u32,
-    own: u32,
-    middle: u32,
-) -> u32
-    requires own { own < owns }
-    requires middle { middle < middles }
-    requires fits { owns * middles < 2 ^ 32 }
-    ensures index { result ≡ index_beside middle_first owns middles own middle }
-    ensures below { result < owns * middles }
-{
-    if middle_first {
-        middle + middles * own
-    } else {
-        own + owns * middle
     }
 }

@@ -13,13 +13,12 @@ ghost use Rattle.scr_search.specs.Search.{IsAt, KeepsWays};
 ghost use Rattle.scr_search.specs.TurnSets.{contains_turn};
 ghost use Rattle.scr_search.specs.Views.{AreViews, Shows, lines_of, one_line, other_line, part_number, view_beside};
 
-use crate::near_set::{NEAR, NEAR_AT, NearSet};
+use crate::near_set::{NEAR_AT, NearSet};
 use crate::outlook::{Outlook, outlooks};
-use crate::part::Part;
+use crate::part::{Part, Word};
 use crate::position::{BLOCK, PartPosition};
-use crate::pruning::{PruningTable, beside, index_beside};
-use crate::turn_set::{TurnSet, behind};
-use crate::word::Word;
+use crate::pruning::{PruningTable, beside};
+use crate::turn_set::TurnSet;
 use scr_positions::{Coord, MoveTable};
 use scr_table::BuildFault;
 use std::alloc::{AllocError, Global};
@@ -127,79 +126,45 @@ impl<P: Part> SearchTables<P> {
         self.near = near;
     }
 
-    /// The position of a cube in the pruning table of the first of the part's own coordinates.
-    #[inline]
-    fn one_index(at: PartPosition) -> u32
-        requires { (c : CubeState) × Shows P.views c at }
-        ensures below { result < (one_line P.views P.extent).coordinate.count }
-        ensures shown { (c : CubeState) → Shows P.views c at
-            → result ≡ (view_beside P.extent.middle_first P.views.one P.views.middle).number c }
-    {
-        let extent = P::extent();
-        index_beside(
-            extent.middle_first,
-            extent.ones,
-            extent.middles,
-            at.one,
-            at.middle,
-        )
-    }
-
-    /// That in the table of the other.
-    #[inline]
-    fn other_index(at: PartPosition) -> u32
-        requires { (c : CubeState) × Shows P.views c at }
-        ensures below { result < (other_line P.views P.extent).coordinate.count }
-        ensures shown { (c : CubeState) → Shows P.views c at
-            → result ≡ (view_beside P.extent.middle_first P.views.other P.views.middle).number c }
-    {
-        let extent = P::extent();
-        index_beside(
-            extent.middle_first,
-            extent.others,
-            extent.middles,
-            at.other,
-            at.middle,
-        )
-    }
-
-    /// A number of turns of which no fewer lead from a position to an end of the part.
-    pub(crate) fn least_from(&self, at: PartPosition) -> u32
-        requires views { AreViews P.views P.extent }
-        requires at { (c : CubeState) × Shows P.views c at }
-        ensures { (c : CubeState) (n : ℕ) (w : List ℕ) → Shows P.views c at → n < result
-            → Contains (words_of P.views.turns n) w → leads P.views.ends c w ≡ false }
-    {
-        let by_one = self.one_slice.distances.distance(Self::one_index(at));
-        if self.near.has(Self::number_of(at)) {
-            by_one
-        } else {
-            by_one.max(NEAR + 1)
-        }
-    }
-
     /// The turns of which one may be the next behind a word that leads to a position, where `left` turns, one or more,
     /// are still to be made.
     #[inline]
     pub(crate) fn turns_behind(&self, word: &Word, at: PartPosition, left: u32) -> TurnSet
-        requires at { (c : CubeState) × IsAt P.views c word.now at }
+        requires at { (c : CubeState) × IsAt P.views c word.now.items at }
         requires some { 0 < left }
-        ensures kept { (c : CubeState) → IsAt P.views c word.now at → KeepsWays P.views c word.now left result.bits }
+        ensures kept { (c : CubeState) → IsAt P.views c word.now.items at → KeepsWays P.views c word.now.items left result.bits }
         ensures last { left ≡ 1 → (place : ℕ) → IsTrue (contains_turn result.bits place)
             → IsTrue (P.views.is_last (slice_index P.views.turns place)) }
         ensures few { result.bits < 2 ^ 18 }
     {
         let extent = P::extent();
-        let by_one = self.one_slice.turns_within(Self::one_index(at), left);
-        let by_other = self.other_slice.turns_within(Self::other_index(at), left);
-        let turns = behind(word, &extent.behind).and(by_one).and(by_other);
+        let face = match word.last() {
+            None => 6,
+            Some(turn) => usize::from(*turn / 3),
+        };
+        let one = extent.index(extent.ones, at.one, at.middle);
+        let other = extent.index(extent.others, at.other, at.middle);
+        let by_one = self.one_slice.turns_within(one, left);
+        let by_other = self.other_slice.turns_within(other, left);
+        let turns = TurnSet {
+            bits: extent.behind[face] & by_one.bits & by_other.bits,
+        };
         if left == 1 {
-            turns.and(extent.last)
-        } else if left == NEAR_AT {
-            self.near.turns_into(self, at, turns)
-        } else {
-            turns
+            return TurnSet {
+                bits: turns.bits & extent.last.bits,
+            };
         }
+        if left != NEAR_AT || self.near.blocks.is_empty() {
+            return turns;
+        }
+        // Of these the turns that lead into the near set.
+        let mut others = turns;
+        let mut into = TurnSet::NONE;
+        while let Some(place) = others.pop() {
+            let next = Self::number_of(self.after(at, place));
+            into = into.with_if(place, self.near.has(next));
+        }
+        into
     }
 
     /// Where the turn at a place leads.

@@ -1,10 +1,6 @@
 //! Sets of turns.
-ghost use Rattle.std.specs.Prelude.{◌≡◌, ℕ, ◌^◌, ◌<◌, ◌&&◌, ◌||◌, ◌==◌, ◌∷◌, [], All, List, MatchOption, IfNone, IfSome, IsTrue, length, not, slice_index};
-ghost use Rattle.scr_search.specs.Orderly.{may_end};
+ghost use Rattle.std.specs.Prelude.{◌≡◌, ℕ, ◌^◌, ◌<◌, ◌&&◌, ◌||◌, ◌==◌, ◌∷◌, [], MatchOption, IfNone, IfSome, IsTrue, not};
 ghost use Rattle.scr_search.specs.TurnSets.{contains_turn, turns_in};
-ghost use Rattle.scr_search.specs.Views.{AreBehind};
-
-use crate::word::Word;
 
 /// Some of the 18 turns, each a bit at its number.
 #[derive(Clone, Copy)]
@@ -37,20 +33,6 @@ impl TurnSet {
         }
     }
 
-    /// The turns that are in both.
-    #[inline]
-    #[tactic(auto, using(crate::proofs::Cited::and))]
-    pub fn and(self, other: TurnSet) -> TurnSet
-        requires { self.bits < 2 ^ 18 }
-        ensures turns { (t : ℕ)
-            → contains_turn result.bits t ≡ (contains_turn self.bits t && contains_turn other.bits t) }
-        ensures few { result.bits < 2 ^ 18 }
-    {
-        TurnSet {
-            bits: self.bits & other.bits,
-        }
-    }
-
     /// Takes the lowest turn out, if there is one.
     #[inline]
     #[tactic(auto, using(crate::proofs::Cited::pop))]
@@ -72,19 +54,4 @@ impl TurnSet {
         self.bits &= !(1 << turn);
         Some(turn)
     }
-}
-
-/// The turns that may stand right behind a word, where `sets` has those for each face of its last turn, and then all
-/// turns.
-#[inline]
-pub(crate) fn behind(word: &Word, sets: &[u32; 7]) -> TurnSet
-    ensures turns { (turns : List ℕ) → AreBehind turns sets.now → (place : ℕ) → place < length turns
-        → contains_turn result.bits place ≡ may_end word.now (slice_index turns place) }
-    ensures small { (limit : ℕ) → All (λ set. set < limit) sets.now → result.bits < limit }
-{
-    let face = match word.last() {
-        None => 6,
-        Some(turn) => usize::from(turn / 3),
-    };
-    TurnSet { bits: sets[face] }
 }

@@ -6,11 +6,11 @@ use Rattle.std.proofs.lemmas.Bool.{cases_lt}
 use Rattle.std.proofs.lemmas.List.{take-append-drop, length-take-le, length-drop, get_or-take, get_or-drop, get_or_append_left, get_or-append-add, take_at, drop_at, length-append, nil_from_length}
 use Rattle.std.proofs.lemmas.List.Elements.{All-nil, All-cons, All-head, All-tail, All-take, All-drop}
 use Rattle.scr_combinatorics.specs.Permutations.{place_of}
-use Rattle.scr_sq1.specs.Shapes.{half_word, corners_among, corner_bits, half_of, AreHalves, edges_among, units_among, Fits}
+use Rattle.scr_sq1.specs.Shapes.{half_word, corners_among, half_of, AreHalves, edges_among, units_among}
 use Rattle.scr_sq1.specs.Numbers.{laid, shape_word}
 use Rattle.scr_sq1.proofs.InHalves.{HasPartner, InHalves, no_third}
-use Rattle.scr_sq1.proofs.LaidLaws.{corners_among-append, edges_among-append, length-laid, laid-append, corner_bits-laid, FillsNext, FillsNext-laid, IsLaid, IsLaid-none, IsLaid-append, IsWhole, LaidPieces-whole}
-use Rattle.scr_sq1.proofs.HalfWords.{corner_count, half_bits, half_of_word, IsHalf-word, IsKnownHalf-below, half_of-bits, halves_in}
+use Rattle.scr_sq1.proofs.LaidLaws.{Fits, corners_among-append, edges_among-append, length-laid, laid-append, corner_bits-laid, FillsNext, FillsNext-laid, IsLaid, IsLaid-none, IsLaid-append, IsWhole, LaidPieces-whole}
+use Rattle.scr_sq1.proofs.HalfWords.{corner_count, corner_bits, half_bits, half_of_word, IsHalf-word, IsKnownHalf-below, half_of-bits, halves_in}
 
 pub shape_word-cons : (h : ℕ) (hs : List ℕ) → shape_word (h ∷ hs) ≡ half_word h ++ shape_word hs
 unfolding shape_word

@@ -104,7 +104,7 @@ ways-none : (c : ℕ) → ways_to_have zero c ≡ cond (c == 0) 1 0
 unfolding ways_after
 ways-none c = refl
 
-ways-suc : (n c : ℕ) → ways_to_have (suc n) c ≡ total (map (ways_after n c) corner_counts)
+pub ways-suc : (n c : ℕ) → ways_to_have (suc n) c ≡ total (map (ways_after n c) corner_counts)
 unfolding ways_after
 ways-suc n c = grind (arith, nat_tests, le-leb)
 

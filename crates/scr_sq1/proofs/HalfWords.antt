@@ -11,7 +11,7 @@ use Rattle.scr_notation.specs.Ranges.{all_below}
 use Rattle.scr_notation.proofs.Below.{at_below}
 use Rattle.scr_combinatorics.specs.Permutations.{place_of}
 use Rattle.scr_sq1.specs.Units.{is_corner}
-use Rattle.scr_sq1.specs.Shapes.{half_words, half_word, pieces_in, corners_among, corner_counts, half_of, shape_of, corner_bits, units_among}
+use Rattle.scr_sq1.specs.Shapes.{half_words, half_word, pieces_in, corners_among, corner_counts, half_of, shape_of, units_among}
 
 -- how many corners a half has
 abbrev pub corner_count : ℕ → ℕ
@@ -22,6 +22,11 @@ abbrev pub word_bits : List Bool → ℕ
 word_bits [] = 0
 word_bits (true ∷ w) = 3 + 4 * word_bits w
 word_bits (false ∷ w) = 2 * word_bits w
+
+-- the same of units, where digit k is that of unit k
+abbrev pub corner_bits : List ℕ → ℕ
+corner_bits [] = 0
+corner_bits (u ∷ us) = cond (is_corner u) 1 0 + 2 * corner_bits us
 
 unfoldable pub half_bits : List ℕ
 half_bits = map (λ word. word_bits (pieces_in word)) half_words

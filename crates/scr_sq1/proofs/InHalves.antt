@@ -2,13 +2,14 @@
 -- cut, and the other way round.
 use Rattle.std.proofs.Common.{◌≡◌, ℕ, zero, suc, ◌+◌, ◌%◌, ◌<◌, ◌≤◌, ◌⊎◌, inl, inr, Bool, true, false, IsTrue, not, List, [], ◌∷◌, length, slice_index, cond, refl, sym, ap, ◌∙◌, subst, arith, eqb-true, eq-eqb, ltb-true}
 use Rattle.std.proofs.lemmas.Bool.Decides.{nat_tests}
-use Rattle.std.specs.Prelude.{◌&&◌, ◌==◌}
+use Rattle.std.specs.Prelude.{◌&&◌, ◌||◌, ◌==◌}
 use Rattle.std.proofs.lemmas.Bool.{cases_eq, cases_lt, false≢true, and_parts, and_from, or_cases, or_left, or_right, lt-ltb, le-ltb, ne_eqb, cond-true, cond-false}
 use Rattle.scr_combinatorics.specs.Lists.{occurrences}
 use Rattle.scr_combinatorics.specs.Permutations.{place_of}
 use Rattle.scr_combinatorics.proofs.Counts.{one_if-same, occurrences-twice}
 use Rattle.scr_combinatorics.proofs.PermutationLaws.{place_of-lt, at-place_of}
-use Rattle.scr_sq1.specs.Units.{Sq1State, IsSq1, is_corner, next_unit, previous_unit, fills_neighbour, are_of_one_corner, is_open}
+use Rattle.scr_sq1.specs.Units.{Sq1State, IsSq1, is_corner, are_of_one_corner, is_open}
+use Rattle.scr_sq1.proofs.Places.{next_unit, previous_unit}
 
 -- an element that stands at three places occurs three times
 pub occurrences-thrice : (xs : List ℕ) (i j k : ℕ) → i < j → j < k → k < length xs → slice_index xs i ≡ slice_index xs k
@@ -38,7 +39,25 @@ corner_fills p lt = cond-true {A = ℕ} (is_corner p) 2 1 (lt-ltb p 8 lt)
 edge_fills : (p : ℕ) → 8 ≤ p → (let filled : ℕ = cond (is_corner p) 2 1 in filled ≡ 1)
 edge_fills p le = cond-false {A = ℕ} (is_corner p) 2 1 (le-ltb p 8 le)
 
--- what the code tests of units
+-- a unit's piece fills a neighbouring unit too
+abbrev pub fills_neighbour : List ℕ → ℕ → Bool
+fills_neighbour units k =
+    (slice_index units (next_unit k) == slice_index units k)
+    || (slice_index units (previous_unit k) == slice_index units k)
+
+-- a piece fills its units: a corner two, one behind the other in a half, and an edge one
+pub record FillsItsUnits (p : ℕ) (units : List ℕ) : Type 0 where
+  pub filled : occurrences p units ≡ cond (is_corner p) 2 1
+  pub behind : p < 8 → (place_of p units % 6 < 5) × (slice_index units (suc (place_of p units)) ≡ p)
+
+pub IsSq1-filled : (s : Sq1State) → length s.units ≡ 24 → ((p : ℕ) → p < 16 → FillsItsUnits p s.units) → IsSq1 s
+IsSq1-filled s size each = record {
+  size = size;
+  pieces = λ p lt. (each p lt).filled;
+  corners = λ p lt. (each p (omega arith)).behind lt;
+}
+
+-- what is so of valid units round their layers
 pub record IsPutTogether (units : List ℕ) : Type 0 where
   pub size : length units ≡ 24
   pub pieces : (p : ℕ) → p < 16 → occurrences p units ≡ cond (is_corner p) 2 1

@@ -10,9 +10,14 @@ use Rattle.scr_combinatorics.proofs.Picks.{pick-at}
 use Rattle.scr_notation.specs.Ranges.{all_below}
 use Rattle.scr_notation.proofs.Below.{at_below}
 use Rattle.scr_sq1.specs.Units.{is_corner}
-use Rattle.scr_sq1.specs.Shapes.{corners_among, edges_among, units_among, Fits, corner_bits}
+use Rattle.scr_sq1.specs.Shapes.{corners_among, edges_among, units_among}
 use Rattle.scr_sq1.specs.Numbers.{corners_of, edges_of, laid}
-use Rattle.scr_sq1.proofs.HalfWords.{word_bits}
+use Rattle.scr_sq1.proofs.HalfWords.{word_bits, corner_bits}
+
+-- a word has as many corners and edges as there are
+pub record Fits (w : List Bool) (cs es : List ℕ) : Type 0 where
+  pub corners : corners_among w ≡ length cs
+  pub edges : edges_among w ≡ length es
 
 pub corners_among-append : (v w : List Bool) → corners_among (v ++ w) ≡ corners_among v + corners_among w
 corners_among-append [] w = omega arith

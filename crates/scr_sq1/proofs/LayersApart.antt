@@ -1,14 +1,16 @@
 -- A turn of both layers is one of the top, and then one of the bottom: whether a corner comes across the cut in a layer
 -- is told by how far that layer is turned.
-use Rattle.std.proofs.Common.{◌≡◌, ℕ, ◌<◌, Bool, true, false, cond, List, slice_index, Option, Some, None, sym, ap, ◌∙◌, arith}
+use Rattle.std.proofs.Common.{◌≡◌, ℕ, zero, suc, ◌<◌, Bool, true, false, IsTrue, cond, List, get_or, slice_index, ◌⊎◌, ◌≤◌, inl, inr, Option, Some, None, refl, sym, ap, ◌∙◌, arith}
+use Rattle.std.proofs.lemmas.Bool.{false≢true}
 use Rattle.std.proofs.lemmas.Bool.Decides.{nat_tests}
 use Rattle.std.specs.Prelude.{◌&&◌, not, ℤ, pos, option_and_then}
 use Rattle.scr_combinatorics.specs.Lists.{pick}
 use Rattle.scr_combinatorics.proofs.Picks.{pick-at}
+use Rattle.scr_sq1.specs.declared.turning.TheConstants.{BEFORE_CUT, BEHIND_CUT}
 use Rattle.scr_sq1.specs.Units.{Sq1State, IsSq1, are_of_one_corner, is_open, clockwise, place_before, turn_places, turned, after_layers}
 use Rattle.scr_sq1.proofs.Places.{length-places_by, places_by-at}
 use Rattle.scr_sq1.proofs.Lawful.{turned-apart}
-use Rattle.scr_sq1.proofs.InHalves.{is_open-layers, is_open-valid}
+use Rattle.scr_sq1.proofs.InHalves.{IsOpen, IsOpen-test, is_open-from, is_open-layers, is_open-valid}
 
 -- ---- what comes across the cut
 
@@ -22,6 +24,47 @@ unit-turned units n m k lt =
 pub of_one_corner-turned : (units : List ℕ) (n m j k : ℕ) → j < 24 → k < 24
     → are_of_one_corner (pick units (turn_places n m)) j k ≡ are_of_one_corner units (place_before n m j) (place_before n m k)
 of_one_corner-turned units n m j k lj lk = grind (arith, nat_tests, unit-turned)
+
+-- two units that are not of one corner
+pub crosses-not : (units : List ℕ) (j k : ℕ) → (8 ≤ slice_index units j) ⊎ (slice_index units k ≡ slice_index units j → ⊥)
+    → are_of_one_corner units j k ≡ false
+crosses-not units j k (inl edge) = grind (arith, nat_tests)
+crosses-not units j k (inr other) = grind (arith, nat_tests)
+
+abbrev pub crosses : List ℕ → ℕ → Bool
+crosses units i = are_of_one_corner units (get_or BEFORE_CUT i 0) (get_or BEHIND_CUT i 0)
+
+pub is_open-cut : (units : List ℕ) → ((i : ℕ) → i < 4 → crosses units i ≡ false) → is_open units ≡ true
+is_open-cut units none = is_open-from units (record {
+  top_back = λ t. false≢true (sym (none 0 (omega arith)) ∙ t);
+  top_front = λ t. false≢true (sym (none 1 (omega arith)) ∙ t);
+  bottom_front = λ t. false≢true (sym (none 2 (omega arith)) ∙ t);
+  bottom_back = λ t. false≢true (sym (none 3 (omega arith)) ∙ t);
+})
+
+pub is_open-crossed : (units : List ℕ) (i : ℕ) → i < 4 → crosses units i ≡ true → is_open units ≡ false
+is_open-crossed units i lt one = untrue (is_open units) (λ t. apart i lt (IsOpen-test units t) one)
+  where
+    untrue : (b : Bool) → (IsTrue b → ⊥) → b ≡ false
+    untrue true h = absurd (h refl)
+    untrue false h = refl
+
+    apart : (i : ℕ) → i < 4 → IsOpen units → IsTrue (crosses units i) → ⊥
+    apart zero lt o = o.top_back
+    apart (suc zero) lt o = o.top_front
+    apart (suc (suc zero)) lt o = o.bottom_front
+    apart (suc (suc (suc zero))) lt o = o.bottom_back
+    apart (suc (suc (suc (suc i)))) lt o = absurd (omega arith)
+
+-- one place of the cut, as it is tested before the units are moved
+pub crosses-turned : (units : List ℕ) (n m i : ℕ) → i < 4
+    → crosses (pick units (turn_places n m)) i
+    ≡ are_of_one_corner units (place_before n m (get_or BEFORE_CUT i 0)) (place_before n m (get_or BEHIND_CUT i 0))
+crosses-turned units n m zero lt = of_one_corner-turned units n m 11 0 (omega arith) (omega arith)
+crosses-turned units n m (suc zero) lt = of_one_corner-turned units n m 5 6 (omega arith) (omega arith)
+crosses-turned units n m (suc (suc zero)) lt = of_one_corner-turned units n m 23 12 (omega arith) (omega arith)
+crosses-turned units n m (suc (suc (suc zero))) lt = of_one_corner-turned units n m 17 18 (omega arith) (omega arith)
+crosses-turned units n m (suc (suc (suc (suc i)))) lt = absurd (omega arith)
 
 abbrev top_open : List ℕ → ℕ → Bool
 top_open units n =

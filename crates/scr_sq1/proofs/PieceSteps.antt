@@ -3,17 +3,16 @@ use Rattle.std.proofs.Common.{◌≡◌, ℕ, ◌+◌, ◌-◌, ◌<◌, ◌≤�
 use Rattle.std.proofs.lemmas.Bool.Decides.{nat_tests}
 use Rattle.std.specs.Prelude.{◌&&◌, ◌==◌, filter}
 use Rattle.std.proofs.lemmas.Bool.{and_parts, cond-true, cond-false, lt-ltb, le-ltb}
-use Rattle.std.proofs.lemmas.List.{length-append, length-take-le, get_or-take, take_more, take_more_set, drop_all, append_assoc, at_drop_more}
+use Rattle.std.proofs.lemmas.List.{get_or-take, length-drop, length-set, drop_more, take_more_set, take_all, append-nil, drop_all, append_assoc, at_drop_more}
 use Rattle.scr_notation.specs.Ranges.{all_below}
 use Rattle.scr_notation.proofs.Below.{at_below}
-use Rattle.scr_sq1.specs.declared.pieces.TheConstants.{HALVES}
+use Rattle.scr_sq1.specs.declared.numbers.TheConstants.{HALVES}
 use Rattle.scr_sq1.specs.Units.{is_corner}
-use Rattle.scr_sq1.specs.Shapes.{half_words, half_word, corners_among, corner_counts, IsShape, edges_among}
-use Rattle.scr_sq1.specs.Numbers.{corners_of, edges_of, shape_word}
-use Rattle.scr_sq1.proofs.LaidLaws.{every_second, length-every_second, corners_of-sixteen}
+use Rattle.scr_sq1.specs.Shapes.{half_words, half_word, corner_counts, units_among}
+use Rattle.scr_sq1.specs.Numbers.{corners_of, edges_of, laid, shape_word}
+use Rattle.scr_sq1.proofs.LaidLaws.{Fits, every_second, length-every_second, corners_of-sixteen}
 use Rattle.scr_sq1.proofs.HalfWords.{corner_count, same_word, same_word-true}
 use Rattle.scr_sq1.proofs.HalfByHalf.{shape_word-cons}
-use Rattle.scr_sq1.proofs.StatePieces.{AreCounted-halves}
 use Rattle.scr_sq1.proofs.ShapeSteps.{IsReadTo, read_room, read_more, read_whole}
 
 -- ---- the words of the halves
@@ -36,73 +35,81 @@ IsKnownWord-below h lt =
     let both = and_parts (length w == 6 - corner_count h) (same_word (take (length w) (get_or HALVES h [])) w) (at_below known_word 13 h known_words lt) in
     record { size = eqb-true (length w) (6 - corner_count h) both.0; word = same_word-true (take (length w) (get_or HALVES h [])) w both.1 }
 
--- ---- a half behind the pieces of a word
+-- ---- the units of a shape's pieces
 
--- one piece more
-pub piece_more : (h from piece : ℕ) (before word : List Bool) (x : Bool) → h < 13 → piece < length (half_word h)
-    → from + piece < length word → x ≡ get_or (get_or HALVES h []) piece false
-    → take (from + piece) word ≡ take from before ++ take piece (half_word h)
-    → take (from + (piece + 1)) (set word (from + piece) x) ≡ take from before ++ take (piece + 1) (half_word h)
-piece_more h from piece before word x low inside room e made =
-    let w = half_word h in
-    let known = IsKnownWord-below h low in
-    let same : x ≡ get_or w piece false =
-    e ∙ sym (get_or-take (length w) (get_or HALVES h []) piece false inside) ∙ ap (λ xs. get_or xs piece false) known.word in
-    ap (λ n. take n (set word (from + piece) x)) {x = from + (piece + 1)} {y = from + piece + 1} (omega arith)
-    ∙ take_more_set word (from + piece) x room
-    ∙ ap (λ xs. xs ++ x ∷ []) made
-    ∙ append_assoc (take from before) (take piece w) (x ∷ [])
-    ∙ ap (λ y. take from before ++ (take piece w ++ y ∷ [])) same
-    ∙ ap (λ xs. take from before ++ xs) (sym (take_more w piece false inside))
+-- so many units of a shape's pieces are made, and these pieces are left
+pub record Laying (unit corner edge : ℕ) (units : List ℕ) (left whole : List Bool) (cs es : List ℕ) : Type 0 where
+  pub size : length units ≡ 24
+  pub fits : Fits left (drop corner cs) (drop edge es)
+  pub units_left : unit + units_among left ≡ 24
+  pub made : take unit units ++ laid left (drop corner cs) (drop edge es) ≡ laid whole cs es
 
--- ---- the word of a shape
+module _ (unit corner edge h : ℕ) (units : List ℕ) (whole : List Bool) (cs es : List ℕ) where
+  -- the pieces of a first half, and the others
+  pub laying_first : (hs : List ℕ) (place : ℕ) → place < length hs → h ≡ slice_index hs place
+      → Laying unit corner edge units (shape_word (drop place hs)) whole cs es
+      → Laying unit corner edge units (half_word h ++ shape_word (drop (place + 1) hs)) whole cs es
+  laying_first hs place lt e =
+      let rest : List ℕ = drop (place + 1) hs in
+      subst (λ left. Laying unit corner edge units left whole cs es)
+      (at_drop_more shape_word hs place 0 lt ∙ ap (λ i. shape_word (i ∷ rest)) (sym e) ∙ shape_word-cons h rest)
 
-length_word : (w : List Bool) → length w ≡ corners_among w + edges_among w
-length_word [] = refl
-length_word (true ∷ w) = omega (arith, length_word w)
-length_word (false ∷ w) = omega (arith, length_word w)
+  -- the next of them
+  pub laying_next : (piece count : ℕ) (b : Bool) (rest : List Bool) → h < 13 → count ≡ corner_count h → piece < 6 - count
+      → get_or (get_or HALVES h []) piece false ≡ b → Laying unit corner edge units (drop piece (half_word h) ++ rest) whole cs es
+      → Laying unit corner edge units (b ∷ (drop (piece + 1) (half_word h) ++ rest)) whole cs es
+  laying_next piece count b rest low ec lt e =
+      let w = half_word h in
+      let known = IsKnownWord-below h low in
+      let inside : piece < length w = omega (arith, lt, ec, known.size) in
+      subst (λ left. Laying unit corner edge units left whole cs es)
+      (ap (λ xs. xs ++ rest) (drop_more w piece false inside)
+      ∙ ap (λ x. x ∷ (drop (piece + 1) w ++ rest)) (sym (ap (λ xs. get_or xs piece false) known.word) ∙ get_or-take (length w) (get_or HALVES h []) piece false inside ∙ e))
 
-pub length-shape_word : (hs : List ℕ) → IsShape hs → length (shape_word hs) ≡ 16
-length-shape_word hs shape = grind (arith, nat_tests, AreCounted-halves, length_word)
+  -- none of them
+  pub laying_none : (piece count : ℕ) (rest : List Bool) → h < 13 → count ≡ corner_count h → 6 - count ≤ piece
+      → Laying unit corner edge units (drop piece (half_word h) ++ rest) whole cs es → Laying unit corner edge units rest whole cs es
+  laying_none piece count rest low ec le =
+      subst (λ left. Laying unit corner edge units left whole cs es)
+      (ap (λ xs. xs ++ rest) (drop_all piece (half_word h) (omega (arith, le, ec, (IsKnownWord-below h low).size))))
 
--- the word of the halves from a place on
-pub shape_word-drop : (hs : List ℕ) (i : ℕ) → i < length hs
-    → shape_word (drop i hs) ≡ half_word (slice_index hs i) ++ shape_word (drop (i + 1) hs)
-shape_word-drop hs i lt = at_drop_more shape_word hs i 0 lt ∙ shape_word-cons (slice_index hs i) (drop (i + 1) hs)
+pub laying_start : (whole : List Bool) (cs es units : List ℕ) → length units ≡ 24 → Fits whole cs es → units_among whole ≡ 24
+    → Laying 0 0 0 units whole whole cs es
+laying_start whole cs es units size fits all = record { size = size; fits = fits; units_left = omega (arith, all); made = refl }
 
--- so many pieces are put into the word
-abbrev pub PutHalves : ℕ → ℕ → List Bool → List ℕ → Type 0
-PutHalves i pieces word hs = IsReadTo 16 pieces word (shape_word (drop i hs)) (shape_word hs)
+module _ (unit corner edge : ℕ) (units : List ℕ) (rest whole : List Bool) (cs es : List ℕ) where
+  pub laying_corner_room : Laying unit corner edge units (true ∷ rest) whole cs es → (corner < length cs) × (unit + 1 < 24)
+  laying_corner_room l = (omega (arith, l.fits.corners, length-drop corner cs), omega (arith, l.units_left))
 
-pub put_start : (hs : List ℕ) (word : List Bool) → length word ≡ 16 → PutHalves 0 0 word hs
-put_start hs word size = record { size = size; few = omega arith; read = refl }
+  pub laying_corner : (c : ℕ) → c ≡ slice_index cs corner → Laying unit corner edge units (true ∷ rest) whole cs es
+      → Laying (unit + 2) (corner + 1) edge (set (set units unit c) (unit + 1) c) rest whole cs es
+  laying_corner c e l =
+      let room = laying_corner_room l in
+      let here : drop corner cs ≡ c ∷ drop (corner + 1) cs = drop_more cs corner 0 room.0 ∙ ap (λ x. x ∷ drop (corner + 1) cs) (sym e) in
+      let made : List ℕ = take unit units in
+      let more : List ℕ = laid rest (drop (corner + 1) cs) (drop edge es) in
+      let second : unit + 1 < length (set units unit c) = omega (arith, room.1, l.size, length-set units unit c) in
+      record {
+        size = length-set (set units unit c) (unit + 1) c ∙ length-set units unit c ∙ l.size;
+        fits = record { corners = omega (arith, l.fits.corners, ap length here); edges = l.fits.edges };
+        units_left = omega (arith, l.units_left);
+        made = ap (λ n. take n (set (set units unit c) (unit + 1) c) ++ more) {x = unit + 2} {y = unit + 1 + 1} (omega arith)
+            ∙ ap (λ xs. xs ++ more) (take_more_set (set units unit c) (unit + 1) c second ∙ ap (λ xs. xs ++ c ∷ []) (take_more_set units unit c (omega (arith, room.1, l.size))))
+            ∙ append_assoc (made ++ c ∷ []) (c ∷ []) more ∙ append_assoc made (c ∷ []) (c ∷ more)
+            ∙ ap (λ xs. made ++ laid (true ∷ rest) xs (drop edge es)) (sym here) ∙ l.made;
+      }
 
-pub put_room : (i pieces : ℕ) (word : List Bool) (hs : List ℕ) → IsShape hs → i < 4 → PutHalves i pieces word hs
-    → pieces + length (half_word (slice_index hs i)) ≤ 16
-put_room i pieces word hs shape lt p =
-    let w = half_word (slice_index hs i) in
-    omega (
-      arith,
-      length-shape_word hs shape,
-      ap length p.read,
-      length-append (take pieces word) (shape_word (drop i hs)),
-      length-take-le pieces word (omega (arith, p.few, p.size)),
-      ap length (shape_word-drop hs i (omega (arith, shape.size))),
-      length-append w (shape_word (drop (i + 1) hs)),
-    )
+  pub laying_edge_room : Laying unit corner edge units (false ∷ rest) whole cs es → (edge < length es) × (unit < 24)
+  laying_edge_room l = (omega (arith, l.fits.edges, length-drop edge es), omega (arith, l.units_left))
 
-pub put_more : (i pieces next : ℕ) (word more : List Bool) (hs : List ℕ) → IsShape hs → i < 4
-    → PutHalves i pieces word hs → next ≡ pieces + length (half_word (slice_index hs i))
-    → take next more ≡ take pieces word ++ half_word (slice_index hs i) → length more ≡ 16
-    → PutHalves (i + 1) next more hs
-put_more i pieces next word more hs shape lt p en ew size =
-    grind (arith, nat_tests, put_room, append_assoc, shape_word-drop)
+  pub laying_edge : (e : ℕ) → e ≡ slice_index es edge → Laying unit corner edge units (false ∷ rest) whole cs es
+      → Laying (unit + 1) corner (edge + 1) (set units unit (8 + e)) rest whole cs es
+  laying_edge e is l = grind (arith, nat_tests, laying_edge_room, length-set, length-drop, drop_more, take_more_set, append_assoc)
 
-pub put_end : (i pieces : ℕ) (word : List Bool) (hs : List ℕ) → IsShape hs → 4 ≤ i → PutHalves i pieces word hs
-    → word ≡ shape_word hs
+pub laying_end : (unit corner edge place : ℕ) (units hs cs es : List ℕ) → length hs ≤ place
+    → Laying unit corner edge units (shape_word (drop place hs)) (shape_word hs) cs es → units ≡ laid (shape_word hs) cs es
 unfolding shape_word
-put_end i pieces word hs shape le p =
-    read_whole 16 pieces word _ _ p (length-shape_word hs shape) (ap shape_word (drop_all i hs (omega (arith, shape.size))))
+laying_end unit corner edge place units hs cs es le l = grind (arith, nat_tests, drop_all, take_all, append-nil)
 
 -- ---- corners and edges of units
 

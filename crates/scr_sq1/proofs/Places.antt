@@ -10,7 +10,7 @@ use Rattle.scr_combinatorics.proofs.Picks.{numbers_from-at, pick-at}
 use Rattle.scr_combinatorics.proofs.PermutationLaws.{IsPermutation-from_test}
 use Rattle.scr_notation.specs.Ranges.{all_below}
 use Rattle.scr_notation.proofs.Below.{at_below}
-use Rattle.scr_sq1.specs.Units.{next_unit, previous_unit, place_before, turn_places, twist_places}
+use Rattle.scr_sq1.specs.Units.{place_before, turn_places, twist_places}
 
 -- ---- places given by a function
 
@@ -26,12 +26,6 @@ places_by-at place k lt = get_or-map place (numbers_from 0 24) k 0 0 lt ∙ ap p
 pub same_places : (f g : ℕ → ℕ) → ((k : ℕ) → k < 24 → f k ≡ g k) → places_by f ≡ places_by g
 same_places f g same =
     ext_get_or 0 (places_by f) (places_by g) refl (λ k lt. places_by-at f k lt ∙ same k lt ∙ sym (places_by-at g k lt))
-
--- a list that has at each unit what the function says
-pub places_by_units : (place : ℕ → ℕ) (out : List ℕ) → length out ≡ 24
-    → ((k : ℕ) → k < 24 → slice_index out k ≡ place k) → out ≡ places_by place
-places_by_units place out size filled =
-    ext_get_or 0 out (places_by place) size (λ k lt. filled k (omega arith) ∙ sym (places_by-at place k (omega arith)))
 
 -- one after the other
 pub pick-places_by : (f g : ℕ → ℕ) → ((k : ℕ) → k < 24 → g k < 24)
@@ -73,6 +67,13 @@ turn_places-none = refl
 pub twist_places-twice : pick twist_places twist_places ≡ numbers_from 0 24
 unfolding twist_places
 twist_places-twice = refl
+
+-- the unit behind and the unit before a unit, round its layer
+abbrev pub next_unit : ℕ → ℕ
+next_unit k = if k == 11 then 0 else (if k == 23 then 12 else k + 1)
+
+abbrev pub previous_unit : ℕ → ℕ
+previous_unit k = if k == 0 then 11 else (if k == 12 then 23 else k - 1)
 
 -- neighbours come to neighbours
 abbrev keeps_neighbours : (ℕ → ℕ) → ℕ → Bool

@@ -1,8 +1,10 @@
 -- The tables of the halves, and the steps of the loops over shapes.
-use Rattle.std.proofs.Common.{◌≡◌, ℕ, zero, suc, ◌+◌, ◌-◌, ◌*◌, ◌^◌, ◌<◌, ◌≤◌, IsTrue, List, [], ◌∷◌, ◌++◌, length, take, drop, get_or, set, slice_index, refl, sym, ap, ◌∙◌, subst, arith, eqb-true, lit≤}
+use Rattle.std.proofs.Common.{◌≡◌, ℕ, zero, suc, ◌+◌, ◌-◌, ◌*◌, ◌^◌, ◌<◌, ◌≤◌, IsTrue, inl, inr, Bool, cond, List, [], ◌∷◌, ◌++◌, length, take, drop, get_or, set, slice_index, refl, sym, ap, ◌∙◌, subst, arith, eqb-true, lit≤}
 use Rattle.std.proofs.lemmas.Bool.Decides.{nat_tests}
-use Rattle.std.specs.Prelude.{◌==◌}
-use Rattle.std.proofs.lemmas.List.{length-append, length-take-le, length-drop, drop-drop, length-set, take_all, append-nil, drop_more, take_more_set, append_assoc, at_drop_more, at_drop_all}
+use Rattle.std.specs.Prelude.{◌==◌, nat_lt, map}
+use Rattle.std.proofs.lemmas.Bool.{cases_lt, ltb-true}
+use Rattle.scr_combinatorics.specs.Lists.{total}
+use Rattle.std.proofs.lemmas.List.{length-append, length-take-le, length-drop, drop-drop, drop-take, drop_all, get_or-take, length-take, nil_from_length, length-set, take_all, append-nil, drop_more, take_more_set, append_assoc, at_drop_more}
 use Rattle.std.proofs.lemmas.Nat.{pow_pos}
 use Rattle.std.proofs.Math.Nat.{pow-suc}
 use Rattle.scr_notation.specs.Ranges.{all_below}
@@ -11,9 +13,9 @@ use Rattle.scr_combinatorics.proofs.Counts.{one_if-le_one}
 use Rattle.scr_combinatorics.specs.Permutations.{place_of}
 use Rattle.scr_sq1.specs.declared.shapes.TheConstants.{CORNERS, WAYS, HALF_OF_BITS}
 use Rattle.scr_sq1.specs.Units.{is_corner}
-use Rattle.scr_sq1.specs.Shapes.{half_words, corner_counts, corner_bits, half_of, shape_of, ways_after, run_of, AreHalves, IsShape, halves_at, shape_number, shape_at}
-use Rattle.scr_sq1.proofs.HalfNumbers.{ways_to_have, halves_number, shape_number-halves, run_of-here, run_of-later, StartsWith-halves, halves_number-cons, numbers_before, shapes_one_to_one, ways_of_shapes, first_half, halves_at-suc}
-use Rattle.scr_sq1.proofs.HalfWords.{corner_count, half_bits, half_of-bits, halves_in, shape_of-halves}
+use Rattle.scr_sq1.specs.Shapes.{half_words, corner_counts, half_of, shape_of, ways_after, run_of, AreHalves, IsShape, halves_at, shape_number, shape_at}
+use Rattle.scr_sq1.proofs.HalfNumbers.{ways_to_have, ways-suc, ways_after-few, ways_after-many, length-corner_counts, halves_number, shape_number-halves, run_of-here, run_of-later, StartsWith, StartsWith-halves, halves_number-cons, shapes_one_to_one, ways_of_shapes}
+use Rattle.scr_sq1.proofs.HalfWords.{corner_count, corner_bits, half_bits, half_of-bits, halves_in, shape_of-halves}
 
 -- ---- lists that are read off, element by element
 
@@ -49,27 +51,40 @@ corners_table : CORNERS ≡ corner_counts
 unfolding half_words corner_counts
 corners_table = refl
 
-ways_tables : IsTrue (all_below (λ n. all_below (λ c. get_or (get_or WAYS n []) c 0 == ways_to_have n c) 9) 4)
-unfolding all_below half_words corner_counts ways_after
-ways_tables = refl
-
-pub ways_table : (n c : ℕ) → n ≤ 3 → c ≤ 8 → get_or (get_or WAYS n []) c 0 ≡ ways_to_have n c
-ways_table n c ln lc =
-    eqb-true (get_or (get_or WAYS n []) c 0) (ways_to_have n c)
-    (at_below (λ c. get_or (get_or WAYS n []) c 0 == ways_to_have n c) 9 c
-    (at_below (λ n. all_below (λ c. get_or (get_or WAYS n []) c 0 == ways_to_have n c) 9) 4 n ways_tables (omega arith)) (omega arith))
-
 pub corners_table-at : (h : ℕ) → get_or CORNERS h 0 ≡ corner_count h
 corners_table-at h = ap (λ xs. get_or xs h 0) corners_table
 
-pub corners_table-listed : (h : ℕ) → get_or CORNERS h 0 ≡ slice_index corner_counts h
-corners_table-listed h = ap (λ xs. get_or xs h 0) corners_table
+-- in how many ways n halves can follow one that has k of c corners
+is_ways : ℕ → ℕ → ℕ → Bool
+is_ways n c k = get_or (get_or WAYS n []) (c + 3 - k) 0 == ways_after n c k
+
+ways_tables : IsTrue (all_below (λ n. all_below (λ c. all_below (is_ways n c) 4) 9) 4)
+unfolding all_below is_ways half_words corner_counts ways_after
+ways_tables = refl
+
+few_corners : IsTrue (all_below (λ h. nat_lt (corner_count h) 4) 13)
+unfolding all_below half_words corner_counts
+few_corners = refl
+
+pub corner_count-few : (h : ℕ) → h < 13 → corner_count h ≤ 3
+corner_count-few h lt = omega (arith, ltb-true (corner_count h) 4 (at_below (λ h. nat_lt (corner_count h) 4) 13 h few_corners lt))
+
+pub ways_table : (n c h : ℕ) → n ≤ 3 → c ≤ 8 → h < 13
+    → get_or (get_or WAYS n []) (c + 3 - get_or CORNERS h 0) 0 ≡ ways_after n c (corner_count h)
+unfolding is_ways
+ways_table n c h ln lc lh =
+    let k : ℕ = corner_count h in
+    ap (λ i. get_or (get_or WAYS n []) (c + 3 - i) 0) (corners_table-at h)
+    ∙ eqb-true (get_or (get_or WAYS n []) (c + 3 - k) 0) (ways_after n c k)
+    (at_below (is_ways n c) 4 k
+    (at_below (λ c. all_below (is_ways n c) 4) 9 c
+    (at_below (λ n. all_below (λ c. all_below (is_ways n c) 4) 9) 4 n ways_tables (omega arith)) (omega arith)) (omega (arith, corner_count-few h lh)))
 
 half_tables : IsTrue (all_below (λ b. get_or HALF_OF_BITS b 0 == place_of b half_bits) 64)
 unfolding all_below half_words half_bits
 half_tables = refl
 
-pub half_table : (units : List ℕ) (b : ℕ) → length units ≡ 6 → b ≡ corner_bits units → b < 64
+half_table : (units : List ℕ) (b : ℕ) → length units ≡ 6 → b ≡ corner_bits units → b < 64
     → get_or HALF_OF_BITS b 0 ≡ half_of units
 half_table units b six e lt =
     eqb-true (get_or HALF_OF_BITS b 0) (place_of b half_bits) (at_below (λ b. get_or HALF_OF_BITS b 0 == place_of b half_bits) 64 b half_tables lt)
@@ -82,8 +97,19 @@ corner_bits-lt n [] le = omega (arith, pow_pos n)
 corner_bits-lt zero (u ∷ us) le = absurd (omega arith)
 corner_bits-lt (suc n) (u ∷ us) le = omega (arith, corner_bits-lt n us (omega arith), pow-suc 2 n, one_if-le_one (is_corner u))
 
-pub corner_bits-drop : (units : List ℕ) (k : ℕ) → 0 < k → length units ≤ 6 → corner_bits (drop k units) < 32
-corner_bits-drop units k pos le = corner_bits-lt 5 (drop k units) (omega (arith, length-drop k units))
+-- those of a half, from its last unit on
+pub half_bits-none : (units : List ℕ) (n k : ℕ) → n ≤ k → corner_bits (drop k (take n units)) ≡ 0
+half_bits-none units n k le = ap corner_bits (drop_all k (take n units) (omega (arith, le, length-take n units)))
+
+pub half_bits-more : (units : List ℕ) (n k : ℕ) → k < n → n ≤ length units
+    → corner_bits (drop k (take n units)) ≡ cond (is_corner (slice_index units k)) 1 0 + 2 * corner_bits (drop (k + 1) (take n units))
+half_bits-more units n k lt le =
+    at_drop_more corner_bits (take n units) k 0 (omega (arith, length-take-le n units le))
+    ∙ ap (λ u. cond (is_corner u) 1 0 + 2 * corner_bits (drop (k + 1) (take n units))) (get_or-take n units k 0 lt)
+
+pub half_bits-lt : (units : List ℕ) (n k : ℕ) → n ≤ k + 6 → n ≤ length units → corner_bits (drop k (take n units)) < 64
+half_bits-lt units n k le inside =
+    corner_bits-lt 6 (drop k (take n units)) (omega (arith, length-drop k (take n units), length-take-le n units inside))
 
 -- ---- runs
 
@@ -98,9 +124,12 @@ pub run_of-found : (f : ℕ → ℕ) (ks : List ℕ) (i r : ℕ) → i < length 
 run_of-found f ks i r lt less =
     at_drop_more (λ xs. run_of f xs r) ks i 0 lt ∙ run_of-here f (slice_index ks i) (drop (i + 1) ks) r less
 
-pub run_of-end : (f : ℕ → ℕ) (ks : List ℕ) (i r : ℕ) → length ks ≤ i
-    → (let p : ℕ × ℕ = (0, r) in run_of f (drop i ks) r ≡ p)
-run_of-end f ks i r le = at_drop_all (λ xs. run_of f xs r) ks i le
+-- the halves behind a place, and those behind the next one
+places_left : (place : ℕ) → place < 4 → 4 - place ≡ suc (3 - place)
+places_left place lt = omega arith
+
+places_after : (place : ℕ) → place < 4 → 3 - place ≡ 4 - (place + 1)
+places_after place lt = omega arith
 
 -- ---- the number of a shape, half by half
 
@@ -113,30 +142,63 @@ pub record CountedHalves (n corners number : ℕ) (left hs : List ℕ) : Type 0 
 pub counted_start : (hs : List ℕ) → IsShape hs → CountedHalves 4 8 0 hs hs
 counted_start hs shape = record { halves = shape; counted = omega (arith, shape_number-halves hs shape); few = lit≤ tt }
 
--- one half less
-pub record CountedStep (n corners number h : ℕ) (others hs : List ℕ) : Type 0 where
-  pub below : h < 13
-  pub few : corner_count h ≤ corners
-  pub small : number + numbers_before n corners h < 3678
-  pub next : CountedHalves n (corners - corner_count h) (number + numbers_before n corners h) others hs
+-- the same while the lists that begin with a lower half are counted
+pub record CountingLower (place corners half lower number : ℕ) (hs : List ℕ) : Type 0 where
+  pub few : corners ≤ 8
+  pub first : StartsWith (3 - place) corners half (drop (place + 1) hs)
+  pub counted : number + total (map (ways_after (3 - place) corners) (drop lower (take half corner_counts)))
+      + halves_number (corners - corner_count half) (drop (place + 1) hs) ≡ shape_number hs
 
-pub counted_step : (n corners number h : ℕ) (others hs : List ℕ) → IsShape hs
-    → CountedHalves (suc n) corners number (h ∷ others) hs → CountedStep n corners number h others hs
-counted_step n corners number h others hs shape c =
-    let s = StartsWith-halves n corners h others c.halves in
-    let all = halves_number-cons n corners h others s.others.size in
+pub lower_start : (place corners half number : ℕ) (hs : List ℕ) → place < 4 → IsShape hs → half ≡ slice_index hs place
+    → CountedHalves (4 - place) corners number (drop place hs) hs → CountingLower place corners half 0 number hs
+lower_start place corners half number hs lt shape e c =
+    let behind : List ℕ = drop (place + 1) hs in
+    let here : drop place hs ≡ half ∷ behind = drop_more hs place 0 (omega (arith, shape.size)) ∙ ap (λ h. h ∷ behind) (sym e) in
+    let first = StartsWith-halves (3 - place) corners half behind
+    (subst (λ n. AreHalves n corners (half ∷ behind)) (places_left place lt) (subst (AreHalves (4 - place) corners) here c.halves)) in
     record {
-      below = s.below;
-      few = s.few;
-      small = omega (arith, c.counted, all, shapes_one_to_one.below hs shape);
-      next = record { halves = s.others; counted = omega (arith, c.counted, all); few = omega (arith, c.few) };
+      few = c.few;
+      first = first;
+      counted = omega (
+        arith,
+        c.counted,
+        ap (halves_number corners) here,
+        halves_number-cons (3 - place) corners half behind first.others.size,
+      );
     }
 
-pub counted_end : (corners number : ℕ) (left hs : List ℕ) → CountedHalves 0 corners number left hs
-    → number ≡ shape_number hs
+module _ (place corners half lower number : ℕ) (hs : List ℕ) (l : CountingLower place corners half lower number hs) where
+  -- the next lower half
+  lower_more : lower < half → total (map (ways_after (3 - place) corners) (drop lower (take half corner_counts)))
+      ≡ ways_after (3 - place) corners (corner_count lower) + total (map (ways_after (3 - place) corners) (drop (lower + 1) (take half corner_counts)))
+  lower_more lt =
+      let f = ways_after (3 - place) corners in
+      at_drop_more (λ ks. total (map f ks)) (take half corner_counts) lower 0 (omega (arith, l.first.below, length-take-le half corner_counts (omega (arith, l.first.below, length-corner_counts))))
+      ∙ ap (λ k. f k + total (map f (drop (lower + 1) (take half corner_counts)))) (get_or-take half corner_counts lower 0 lt)
+
+  pub lower_small : lower < half → IsShape hs → number + ways_after (3 - place) corners (corner_count lower) < 3678
+  lower_small lt shape = omega (arith, l.counted, lower_more lt, shapes_one_to_one.below hs shape)
+
+  pub lower_next : (run : ℕ) → run ≡ ways_after (3 - place) corners (corner_count lower) → lower < half
+      → CountingLower place corners half (lower + 1) (number + run) hs
+  lower_next run is lt = record { few = l.few; first = l.first; counted = omega (arith, l.counted, is, lower_more lt) }
+
+  pub lower_end : (count : ℕ) → count ≡ corner_count half → half ≤ lower → place < 4
+      → CountedHalves (4 - (place + 1)) (corners - count) number (drop (place + 1) hs) hs
+  lower_end count is le lt =
+      let f = ways_after (3 - place) corners in
+      let none : drop lower (take half corner_counts) ≡ [] = drop_all lower (take half corner_counts) (omega (arith, le, length-take-le half corner_counts (omega (arith, l.first.below, length-corner_counts)))) in
+      subst (λ k. CountedHalves (4 - (place + 1)) (corners - k) number (drop (place + 1) hs) hs) (sym is)
+      (subst (λ n. CountedHalves n (corners - corner_count half) number (drop (place + 1) hs) hs) (places_after place lt) (record {
+        halves = l.first.others;
+        counted = omega (arith, l.counted, ap (λ ks. total (map f ks)) none);
+        few = omega (arith, l.few);
+      }))
+
+pub counted_whole : (place corners number : ℕ) (hs : List ℕ) → 4 ≤ place
+    → CountedHalves (4 - place) corners number (drop place hs) hs → number ≡ shape_number hs
 unfolding halves_number
-counted_end corners number [] hs c = omega (arith, c.counted)
-counted_end corners number (h ∷ left) hs c = absurd (omega (arith, c.halves.size))
+counted_whole place corners number hs le c = grind (arith, nat_tests, nil_from_length)
 
 -- ---- the shape of a number
 
@@ -150,31 +212,75 @@ pub made_start : (number : ℕ) → number < 3678 → MadeHalves 0 4 8 number nu
 unfolding shape_at
 made_start number lt = grind (arith, nat_tests, ways_of_shapes)
 
--- one half more
-pub record MadeStep (place n corners rest h left number : ℕ) (halves : List ℕ) : Type 0 where
-  pub below : h < 13
-  pub few : corner_count h ≤ corners
-  pub next : MadeHalves (place + 1) n (corners - corner_count h) left number (set halves place h)
+-- the next half is this one or a higher one, and its list has so many numbers before it yet
+pub record FallingHalf (place n corners half rest number : ℕ) (halves : List ℕ) : Type 0 where
+  pub few : corners ≤ 8
+  pub low : half < 13
+  pub below : rest < total (map (ways_after n corners) (drop half corner_counts))
+  pub first : ℕ
+  pub first_is : first ≡ half + (run_of (ways_after n corners) (drop half corner_counts) rest).0
+  pub made : IsReadTo 4 place halves (first ∷ halves_at n (corners - slice_index corner_counts first)
+      (run_of (ways_after n corners) (drop half corner_counts) rest).1) (shape_at number)
 
-pub made_step : (place n corners rest h left number : ℕ) (halves : List ℕ) → place < 4
-    → MadeHalves place (suc n) corners rest number halves → h ≡ (run_of (ways_after n corners) corner_counts rest).0
-    → left ≡ (run_of (ways_after n corners) corner_counts rest).1 → MadeStep place n corners rest h left number halves
-made_step place n corners rest h left number halves lt m eh el =
-    let f = first_half n corners rest m.below in
-    let half : h ≡ f.half = eh ∙ ap (λ p. p.0) f.is in
-    let more : left ≡ f.rest = el ∙ ap (λ p. p.1) f.is in
-    let P : ℕ → Type 0 = λ x. corner_count x ≤ corners in
+pub falling_start : (place corners rest number : ℕ) (halves : List ℕ) → place < 4
+    → MadeHalves place (4 - place) corners rest number halves → FallingHalf place (3 - place) corners 0 rest number halves
+unfolding halves_at
+falling_start place corners rest number halves lt m =
+    let here = subst (λ n. MadeHalves place n corners rest number halves) (places_left place lt) m in
     record {
-      below = omega (arith, half, f.below);
-      few = subst P (sym half) f.few;
-      next = record {
-        few = omega (arith, m.few);
-        below = subst (λ x. left < ways_to_have n (corners - corner_count x)) (sym half) (omega (arith, more, f.inside));
-        made = read_more 4 place halves _ _ m.made h _ lt
-            (halves_at-suc n corners rest f ∙ ap (λ x. x ∷ halves_at n (corners - corner_count x) f.rest) (sym half)
-            ∙ ap (λ r. h ∷ halves_at n (corners - corner_count h) r) (sym more));
-      };
+      few = here.few;
+      low = omega arith;
+      below = omega (arith, here.below, ways-suc (3 - place) corners);
+      first = (run_of (ways_after (3 - place) corners) corner_counts rest).0;
+      first_is = omega arith;
+      made = here.made;
     }
+
+module _ (place n corners half rest number : ℕ) (halves : List ℕ) (l : FallingHalf place n corners half rest number halves)
+    (run : ℕ) (is : run ≡ ways_after n corners (corner_count half)) where
+  pub falling_next : run ≤ rest → FallingHalf place n corners (half + 1) (rest - run) number halves
+  falling_next le =
+      let f = ways_after n corners in
+      let lt : half < length corner_counts = omega (arith, l.low, length-corner_counts) in
+      let next = run_of-next f corner_counts half rest lt (omega (arith, is)) in
+      let less : rest - run ≡ rest - f (slice_index corner_counts half) = omega (arith, is) in
+      let below : rest - run < total (map f (drop (half + 1) corner_counts)) =
+      omega (arith, is, l.below, at_drop_more (λ ks. total (map f ks)) corner_counts half 0 lt) in
+      record {
+        few = l.few;
+        low = elim (cases_lt (half + 1) 13) [
+          | inl low ↦ low
+          | inr le ↦ absurd (omega (arith, below, ap (λ ks. total (map f ks)) (drop_all (half + 1) corner_counts (omega (arith, length-corner_counts)))))
+        ];
+        below = below;
+        first = l.first;
+        first_is = omega (arith, l.first_is, ap (λ p. p.0) next, ap (λ r. (run_of f (drop (half + 1) corner_counts) r).0) less);
+        made = subst (λ r. IsReadTo 4 place halves (l.first ∷ halves_at n (corners - slice_index corner_counts l.first) r) (shape_at number))
+            (ap (λ p. p.1) next ∙ ap (λ r. (run_of f (drop (half + 1) corner_counts) r).1) (sym less)) l.made;
+      }
+
+  pub falling_few : rest < run → corner_count half ≤ corners
+  falling_few less = elim (cases_lt corners (corner_count half)) [
+    | inl many ↦ absurd (omega (arith, is, less, ways_after-many n corners (corner_count half) many))
+    | inr le ↦ le
+  ]
+
+  pub falling_found : rest < run → place < 4 → n ≡ 3 - place → (count : ℕ) → count ≡ corner_count half
+      → MadeHalves (place + 1) (4 - (place + 1)) (corners - count) rest number (set halves place half)
+  falling_found less lt en count ec =
+      let f = ways_after n corners in
+      let found = run_of-found f corner_counts half rest (omega (arith, l.low, length-corner_counts)) (omega (arith, is, less)) in
+      let same : l.first ≡ half = omega (arith, l.first_is, ap (λ p. p.0) found) in
+      let few = falling_few less in
+      let made : MadeHalves (place + 1) n (corners - corner_count half) rest number (set halves place half) = record {
+        few = omega (arith, l.few);
+        below = omega (arith, is, less, ways_after-few n corners (corner_count half) few);
+        made = read_more 4 place halves _ _ l.made half _ lt
+            (ap (λ h. h ∷ halves_at n (corners - slice_index corner_counts h) (run_of f (drop half corner_counts) rest).1) same
+            ∙ ap (λ p. half ∷ halves_at n (corners - corner_count half) p.1) found);
+      } in
+      subst (λ m. MadeHalves (place + 1) m (corners - count) rest number (set halves place half)) (en ∙ places_after place lt)
+      (subst (λ k. MadeHalves (place + 1) n (corners - k) rest number (set halves place half)) (sym ec) made)
 
 pub made_end : (place n corners rest number : ℕ) (halves : List ℕ) → 4 ≤ place → n ≡ 0
     → MadeHalves place n corners rest number halves → halves ≡ shape_at number
@@ -204,56 +310,14 @@ pub read_end : (place n : ℕ) (units halves : List ℕ) → 4 ≤ place → n �
 unfolding halves_in
 read_end place n units halves le e r = read_all 4 place halves _ _ r le (ap (λ k. halves_in k (drop (6 * place) units)) e)
 
--- ---- the same at a place
-
--- the corners of a half that was looked up
-pub counted_corners : (half from : ℕ) → from ≡ half → get_or CORNERS from 0 ≡ corner_count half
-counted_corners half from e = ap (λ i. get_or CORNERS i 0) e ∙ corners_table-at half
-
--- the halves behind a place, and those behind the next one
-places_left : (place : ℕ) → place < 4 → 4 - place ≡ suc (3 - place)
-places_left place lt = omega arith
-
-places_after : (place : ℕ) → place < 4 → 3 - place ≡ 4 - (place + 1)
-places_after place lt = omega arith
-
-pub counted_at : (place corners number : ℕ) (hs : List ℕ) → place < 4 → IsShape hs
-    → CountedHalves (4 - place) corners number (drop place hs) hs
-    → CountedStep (3 - place) corners number (slice_index hs place) (drop (place + 1) hs) hs
-counted_at place corners number hs lt shape c =
-    let here : drop place hs ≡ slice_index hs place ∷ drop (place + 1) hs = drop_more hs place 0 (omega (arith, shape.size)) in
-    counted_step (3 - place) corners number (slice_index hs place) (drop (place + 1) hs) hs shape
-    (subst (λ n. CountedHalves n corners number (slice_index hs place ∷ drop (place + 1) hs) hs) (places_left place lt)
-    (subst (λ xs. CountedHalves (4 - place) corners number xs hs) here c))
-
--- the next step, as it was computed
-pub counted_next : (place corners number h before count : ℕ) (hs : List ℕ) → place < 4
-    → before ≡ numbers_before (3 - place) corners h → count ≡ corner_count h
-    → CountedStep (3 - place) corners number h (drop (place + 1) hs) hs
-    → CountedHalves (4 - (place + 1)) (corners - count) (number + before) (drop (place + 1) hs) hs
-counted_next place corners number h before count hs lt eb ec s = grind (arith, nat_tests, places_after, corner_count)
-
-pub counted_whole : (place corners number : ℕ) (hs : List ℕ) → 4 ≤ place
-    → CountedHalves (4 - place) corners number (drop place hs) hs → number ≡ shape_number hs
-counted_whole place corners number hs le c =
-    counted_end corners number (drop place hs) hs (subst (λ n. CountedHalves n corners number (drop place hs) hs) (omega arith) c)
-
-pub made_at : (place corners rest h left number : ℕ) (halves : List ℕ) → place < 4
-    → MadeHalves place (4 - place) corners rest number halves
-    → h ≡ (run_of (ways_after (3 - place) corners) corner_counts rest).0
-    → left ≡ (run_of (ways_after (3 - place) corners) corner_counts rest).1
-    → MadeStep place (3 - place) corners rest h left number halves
-made_at place corners rest h left number halves lt m eh el =
-    made_step place (3 - place) corners rest h left number halves lt (subst (λ n. MadeHalves place n corners rest number halves) (places_left place lt) m) eh el
-
-pub made_next : (place corners rest h left number count : ℕ) (halves : List ℕ) → place < 4 → count ≡ corner_count h
-    → MadeStep place (3 - place) corners rest h left number halves
-    → MadeHalves (place + 1) (4 - (place + 1)) (corners - count) left number (set halves place h)
-made_next place corners rest h left number count halves lt ec s = grind (arith, nat_tests, places_after)
-
-pub read_next : (place h : ℕ) (units halves : List ℕ) → place < 4 → ReadHalves place (4 - place) units halves
-    → h ≡ half_of (take 6 (drop (6 * place) units))
-    → ReadHalves (place + 1) (4 - (place + 1)) units (set halves place h)
-read_next place h units halves lt r e =
-    subst (λ n. ReadHalves (place + 1) n units (set halves place h)) (places_after place lt)
-    (read_step place (3 - place) h units halves lt (subst (λ n. ReadHalves place n units halves) (places_left place lt) r) e)
+-- the same as it was computed
+pub read_next : (place bits : ℕ) (units halves : List ℕ) → place < 4 → length units ≡ 24 → ReadHalves place (4 - place) units halves
+    → bits ≡ corner_bits (drop (6 * place) (take (6 * place + 6) units))
+    → ReadHalves (place + 1) (4 - (place + 1)) units (set halves place (get_or HALF_OF_BITS bits 0))
+read_next place bits units halves lt size r e =
+    let six : List ℕ = take 6 (drop (6 * place) units) in
+    let same : drop (6 * place) (take (6 * place + 6) units) ≡ six = drop-take (6 * place) 6 units in
+    let all : length six ≡ 6 = grind (arith, length-drop, length-take-le) in
+    let half = half_table six bits all (e ∙ ap corner_bits same) (omega (arith, e, ap corner_bits same, corner_bits-lt 6 six (omega (arith, all)))) in
+    subst (λ n. ReadHalves (place + 1) n units (set halves place (get_or HALF_OF_BITS bits 0))) (places_after place lt)
+    (read_step place (3 - place) (get_or HALF_OF_BITS bits 0) units halves lt (subst (λ n. ReadHalves place n units halves) (places_left place lt) r) half)

@@ -9,10 +9,10 @@ use Rattle.scr_combinatorics.specs.Permutations.{IsPermutation}
 use Rattle.scr_combinatorics.proofs.Counts.{one_if, one_if-other, lesser_count-zero, lesser_count-suc, lesser_count-all, occurrences-above}
 use Rattle.scr_combinatorics.proofs.PermutationLaws.{All-permutation}
 use Rattle.scr_sq1.specs.Units.{Sq1State, IsSq1, is_corner}
-use Rattle.scr_sq1.specs.Shapes.{half_word, corners_among, shape_of, AreHalves, IsShape, units_among, Fits}
+use Rattle.scr_sq1.specs.Shapes.{half_word, corners_among, shape_of, AreHalves, IsShape, units_among}
 use Rattle.scr_sq1.specs.Numbers.{corners_of, edges_of, laid, shape_word}
 use Rattle.scr_sq1.proofs.InHalves.{InHalves, InHalves-valid, IsSq1-halves}
-use Rattle.scr_sq1.proofs.LaidLaws.{corners_among-append, edges_among-append, length-laid, occurrences-laid, length-corner_units, corners_of-laid, edges_of-laid}
+use Rattle.scr_sq1.proofs.LaidLaws.{Fits, corners_among-append, edges_among-append, length-laid, occurrences-laid, length-corner_units, corners_of-laid, edges_of-laid}
 use Rattle.scr_sq1.proofs.HalfWords.{corner_count, IsKnownHalf-below, halves_in, shape_of-halves}
 use Rattle.scr_sq1.proofs.HalfByHalf.{ArePaired-in_halves, HalfPieces-paired, ShapeUnits-laid}
 

@@ -5,9 +5,9 @@ use Rattle.scr_combinatorics.specs.Lists.{occurrences, pick}
 use Rattle.scr_combinatorics.specs.Permutations.{IsPermutation}
 use Rattle.scr_combinatorics.proofs.Picks.{length-pick, pick-at}
 use Rattle.scr_combinatorics.proofs.PermutationLaws.{IsRearranged-pick, at-permutation}
-use Rattle.scr_sq1.specs.Units.{Sq1State, IsSq1, is_corner, next_unit, previous_unit, is_open, turn_places, twist_places}
+use Rattle.scr_sq1.specs.Units.{Sq1State, IsSq1, is_corner, is_open, turn_places, twist_places}
 use Rattle.scr_sq1.proofs.InHalves.{InHalves-valid, IsSq1-halves, IsPutTogether-valid, IsSq1-together}
-use Rattle.scr_sq1.proofs.Places.{next_unit-lt, previous_unit-lt, IsTurnTable, IsPermutation-twist_places, StaysInHalf-twist}
+use Rattle.scr_sq1.proofs.Places.{next_unit, previous_unit, next_unit-lt, previous_unit-lt, IsTurnTable, IsPermutation-twist_places, StaysInHalf-twist}
 
 -- pieces that are moved by a permutation of the units
 module _ (units places : List ℕ) (size : length units ≡ 24) (permutation : IsPermutation 24 places) where

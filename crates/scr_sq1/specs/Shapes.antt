@@ -97,16 +97,6 @@ edges_among [] = 0
 edges_among (true ∷ w) = edges_among w
 edges_among (false ∷ w) = suc (edges_among w)
 
--- A word has as many corners and edges as there are.
-pub record Fits (w : List Bool) (cs es : List ℕ) : Type 0 where
-  pub corners : corners_among w ≡ length cs
-  pub edges : edges_among w ≡ length es
-
 -- how many units some pieces fill
 abbrev pub units_among : List Bool → ℕ
 units_among w = 2 * corners_among w + edges_among w
-
--- which units are of corners, as a number in base 2 whose digit k is that of unit k
-abbrev pub corner_bits : List ℕ → ℕ
-corner_bits [] = 0
-corner_bits (u ∷ us) = (if is_corner u then 1 else 0) + 2 * corner_bits us

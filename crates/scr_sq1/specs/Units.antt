@@ -5,7 +5,7 @@
 -- at the front on. So the cut parts units 11 and 0, 5 and 6, 23 and 12, 17 and 18, and at its right are units 0 to 5
 -- and 12 to 17. The pieces 0 to 7 are corners, and fill two neighbouring units of one layer; 8 to 15 are edges, and
 -- fill one. Between the layers is the equator, whose right half is turned over at each twist.
-use Rattle.std.specs.Prelude.{◌≡◌, ℕ, suc, ◌+◌, ◌-◌, ◌%◌, ◌<◌, ℤ, pos, negsuc, Bool, false, not, ◌==◌, ◌&&◌, ◌||◌, nat_lt, if◌then◌else◌, List, [], ◌∷◌, ◌++◌, length, map, slice_index, Option, Some, None}
+use Rattle.std.specs.Prelude.{◌≡◌, ℕ, suc, ◌+◌, ◌-◌, ◌%◌, ◌<◌, ℤ, pos, negsuc, Bool, false, not, ◌==◌, ◌&&◌, nat_lt, if◌then◌else◌, List, [], ◌∷◌, ◌++◌, length, map, slice_index, Option, Some, None}
 use Rattle.std.specs.List.{list_all}
 use Rattle.scr_combinatorics.specs.Lists.{occurrences, numbers_from, pick}
 use Rattle.scr_combinatorics.specs.Permutations.{place_of}
@@ -89,18 +89,3 @@ sq1_after s _ = None
 -- The Square-1 as a puzzle. Each turn of the layers counts once, and so does each twist (WCA Regulations, article 4).
 abbrev pub sq1_puzzle : Puzzle Sq1State
 sq1_puzzle = record { Turn = Turn; after = sq1_after; IsSolved = λ s. s ≡ solved_sq1; counted = λ t. 1 }
-
--- ---- neighbours
-
--- the unit behind and the unit before a unit, round its layer
-abbrev pub next_unit : ℕ → ℕ
-next_unit k = if k == 11 then 0 else (if k == 23 then 12 else k + 1)
-
-abbrev pub previous_unit : ℕ → ℕ
-previous_unit k = if k == 0 then 11 else (if k == 12 then 23 else k - 1)
-
--- a unit's piece fills a neighbouring unit too
-abbrev pub fills_neighbour : List ℕ → ℕ → Bool
-fills_neighbour units k =
-    (slice_index units (next_unit k) == slice_index units k)
-    || (slice_index units (previous_unit k) == slice_index units k)

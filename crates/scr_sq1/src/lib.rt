@@ -17,7 +17,6 @@ mod pieces;
 mod shapes;
 mod state;
 mod turning;
-mod validity;
 
 pub use numbers::Sq1Numbers;
 pub use shapes::{Shape, shape_at, shape_number};

@@ -1,20 +1,19 @@
 //! The shapes of a Square-1 and their numbers.
-ghost use Rattle.std.specs.Prelude.{◌≡◌, ℕ, ◌<◌, ◌≤◌, List, map, take, length};
-ghost use Rattle.scr_combinatorics.specs.Lists.{total};
-ghost use Rattle.scr_sq1.specs.Shapes.{IsShape, corner_counts, corner_bits, half_of, shape_of, ways_after, run_of, shape_number, shape_at};
+ghost use Rattle.std.specs.Prelude.{◌≡◌, ℕ, ◌<◌, List};
+ghost use Rattle.scr_sq1.specs.Shapes.{IsShape, shape_of, shape_number, shape_at};
 
 use crate::state::Sq1;
 use std::marker::Model;
 
 /// How many corners each half has.
-pub(crate) const CORNERS: [u8; 13] = [0, 1, 1, 1, 1, 1, 2, 2, 2, 2, 2, 2, 3];
+pub(crate) const CORNERS: [usize; 13] = [0, 1, 1, 1, 1, 1, 2, 2, 2, 2, 2, 2, 3];
 
-/// In how many ways 0 to 3 halves can have 0 to 8 corners in all.
-const WAYS: [[u16; 9]; 4] = [
-    [1, 0, 0, 0, 0, 0, 0, 0, 0],
-    [1, 5, 6, 1, 0, 0, 0, 0, 0],
-    [1, 10, 37, 62, 46, 12, 1, 0, 0],
-    [1, 15, 93, 308, 588, 651, 399, 123, 18],
+/// In how many ways 0 to 3 halves can have 0 to 8 corners in all, behind three zeros for fewer than none.
+const WAYS: [[u32; 12]; 4] = [
+    [0, 0, 0, 1, 0, 0, 0, 0, 0, 0, 0, 0],
+    [0, 0, 0, 1, 5, 6, 1, 0, 0, 0, 0, 0],
+    [0, 0, 0, 1, 10, 37, 62, 46, 12, 1, 0, 0],
+    [0, 0, 0, 1, 15, 93, 308, 588, 651, 399, 123, 18],
 ];
 
 /// The half that has its corners at these units, where unit k is bit k; 13 where there is none.
@@ -65,25 +64,15 @@ impl Sq1 {
         let units = self.units();
         let mut halves = [0; 4];
         for half in 0..4 {
-            halves[half] = HALF_OF_BITS[corner_bits(&units[6 * half..6 * half + 6])];
+            // which of its units are of corners, unit k as bit k
+            let mut bits = 0;
+            for unit in (6 * half..6 * half + 6).rev() {
+                bits = 2 * bits + usize::from(units[unit] < 8);
+            }
+            halves[half] = HALF_OF_BITS[bits];
         }
         Shape { halves }
     }
-}
-
-/// Which of six units are of corners, unit k as bit k.
-#[tactic(auto, using(crate::proofs::Cited::corner_bits))]
-fn corner_bits(units: &[u8]) -> usize
-    requires { length units.now ≡ 6 }
-    ensures value { result ≡ corner_bits units.now }
-    ensures below { result < 64 }
-{
-    let mut bits = 0;
-    for unit in (0..units.len()).rev() {
-        let bit = if units[unit] < 8 { 1 } else { 0 };
-        bits = 2 * bits + bit;
-    }
-    bits
 }
 
 /// The number of a shape in dictionary order, below 3,678.
@@ -96,9 +85,12 @@ pub fn shape_number(shape: &Shape) -> u32
     let mut number = 0;
     let mut corners = 8;
     for place in 0..4 {
-        let half = halves[place];
-        number += numbers_before(3 - place, corners, half);
-        corners -= CORNERS[usize::from(half)];
+        let half = usize::from(halves[place]);
+        // the lists that begin with a lower half here
+        for lower in 0..half {
+            number += WAYS[3 - place][corners + 3 - CORNERS[lower]];
+        }
+        corners -= CORNERS[half];
     }
     number
 }
@@ -116,60 +108,13 @@ pub fn shape_at(number: u32) -> Shape
     let mut rest = number;
     let mut corners = 8;
     for place in 0..4 {
-        let (half, left) = first_half(3 - place, corners, rest);
-        halves[place] = half;
-        rest = left;
-        corners -= CORNERS[usize::from(half)];
+        let mut half = 0;
+        while WAYS[3 - place][corners + 3 - CORNERS[half]] <= rest {
+            rest -= WAYS[3 - place][corners + 3 - CORNERS[half]];
+            half += 1;
+        }
+        halves[place] = half as u8;
+        corners -= CORNERS[half];
     }
     Shape { halves }
-}
-
-/// How many lists of halves begin with a lower half than this one, where so many others follow and there are so many
-/// corners in all.
-#[tactic(auto, using(crate::proofs::Cited::numbers_before))]
-fn numbers_before(others: usize, corners: u8, half: u8) -> u32
-    requires others { others ≤ 3 }
-    requires corners { corners ≤ 8 }
-    requires half { half < 13 }
-    ensures { result ≡ total (map (ways_after others corners) (take half corner_counts)) }
-{
-    let mut number = 0;
-    for lower in 0..half {
-        number += ways_after(others, corners, CORNERS[usize::from(lower)]);
-    }
-    number
-}
-
-/// With which half a list with this number begins, and the number of the others: 13 where there is no such list.
-#[tactic(auto, using(crate::proofs::Cited::first_half))]
-fn first_half(others: usize, corners: u8, number: u32) -> (u8, u32)
-    requires others { others ≤ 3 }
-    requires corners { corners ≤ 8 }
-    ensures half { result.0 ≡ (run_of (ways_after others corners) corner_counts number).0 }
-    ensures rest { result.1 ≡ (run_of (ways_after others corners) corner_counts number).1 }
-{
-    let mut rest = number;
-    for half in 0..13 {
-        let run = ways_after(others, corners, CORNERS[usize::from(half)]);
-        if rest < run {
-            return (half, rest);
-        }
-        rest -= run;
-    }
-    (13, rest)
-}
-
-/// In how many ways so many halves can follow one that has `taken` of so many corners.
-#[tactic(auto, using(crate::proofs::Cited::ways_after))]
-fn ways_after(others: usize, corners: u8, taken: u8) -> u32
-    requires others { others ≤ 3 }
-    requires corners { corners ≤ 8 }
-    ensures value { result ≡ ways_after others corners taken }
-    ensures small { result < 65536 }
-{
-    if taken <= corners {
-        u32::from(WAYS[others][usize::from(corners - taken)])
-    } else {
-        0
-    }
 }

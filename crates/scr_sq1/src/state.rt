@@ -10,8 +10,7 @@ ghost use Rattle.scr_sq1.specs.Shapes.{shape_of};
 ghost use Rattle.scr_sq1.specs.Numbers.{corners_of, edges_of};
 ghost use Rattle.scr_sq1.specs.Units.{IsSq1, solved_sq1, after_layers, twisted, sq1_after};
 
-use crate::turning::{TWIST_PLACES, UNITS, clockwise, moved, turn_places};
-use crate::validity::{are_corners_whole, has_each_piece, is_open_turned};
+use crate::turning::{TWIST_PLACES, UNITS, clockwise, is_open_turned, place_before};
 use scr_notation::{NumberedWord, Scramble, Turn};
 use std::marker::Model;
 
@@ -62,15 +61,30 @@ impl Sq1 {
 
     /// The state in which each unit is of this piece, and whose equator stands turned or not. `None` comes exactly
     /// where these aren't the sixteen pieces, each in its own units, or where a corner lies across the cut.
+    #[tactic(auto, using(crate::proofs::Cited::from_units))]
     pub fn from_units(units: [u8; UNITS], equator: bool) -> Option<Sq1>
         ensures valid { IsSome result ↔ IsSq1 (record { units = units; equator = equator }) }
         ensures value { IfSome result (λ state. state ≡ record { units = units; equator = equator }) }
     {
-        if has_each_piece(&units) && are_corners_whole(&units) && is_open_turned(&units, 0, 0) {
-            Some(Sq1 { units, equator })
-        } else {
-            None
+        for piece in 0..16 {
+            let mut filled: usize = 0;
+            let mut first: usize = 0;
+            for unit in (0..UNITS).rev() {
+                if units[unit] == piece {
+                    filled += 1;
+                    first = unit;
+                }
+            }
+            let is_whole = if piece < 8 {
+                filled == 2 && first % 6 < 5 && units[first + 1] == piece
+            } else {
+                filled == 1
+            };
+            if !is_whole {
+                return None;
+            }
         }
+        Some(Sq1 { units, equator })
     }
 
     /// Which piece each unit is of.
@@ -106,16 +120,23 @@ impl Sq1 {
         ensures value { result ≡ after_layers self.now top bottom }
         ensures valid { IsSq1 self.now }
     {
-        let top = clockwise(top);
-        let bottom = clockwise(bottom);
-        if is_open_turned(&self.units, top, bottom) {
-            Some(Sq1 {
-                units: moved(&self.units, &turn_places(top, bottom)),
-                equator: self.equator,
-            })
-        } else {
-            None
+        let top_places = clockwise(top);
+        let bottom_places = clockwise(bottom);
+        if !is_open_turned(&self.units, top_places, bottom_places) {
+            return None;
         }
+        let mut units = [0; UNITS];
+        for unit in 0..UNITS {
+            units[unit] = self.units[usize::from(place_before(
+                top_places,
+                bottom_places,
+                unit as u8,
+            ))];
+        }
+        Some(Sq1 {
+            units,
+            equator: self.equator,
+        })
     }
 
     /// The state after the half at the right of the cut is turned over, with its part of the equator.
@@ -125,8 +146,12 @@ impl Sq1 {
         ensures value { result ≡ twisted self.now }
         ensures valid { IsSq1 self.now }
     {
+        let mut units = [0; UNITS];
+        for unit in 0..UNITS {
+            units[unit] = self.units[usize::from(TWIST_PLACES[unit])];
+        }
         Sq1 {
-            units: moved(&self.units, &TWIST_PLACES),
+            units,
             equator: !self.equator,
         }
     }

@@ -256,6 +256,11 @@ IsEnding-short Squarings short = IsEnding-squaring
 IsEnding-short Quarters short = IsEnding-last
 IsEnding-short _ short = absurd (omega (arith, short))
 
+pub last_of_short : (letters : StageLetters) → (stage_of letters).bound ≡ 1 → (letters ≡ Squarings → ⊥) → letters ≡ Quarters
+last_of_short Squarings short other = absurd (other refl)
+last_of_short Quarters short other = refl
+last_of_short _ short other = absurd (omega (arith, short))
+
 -- ---- the words that the tables find
 
 pub below-word : (stage : Stage Sq1State Turn) (s : Sq1State) (w : List ℕ) → IsStageWord sq1_after stage s w

@@ -6,9 +6,10 @@ ghost use Rattle.scr_sq1.specs.Numbers.{sq1_numbered};
 ghost use Rattle.scr_sq1.specs.Units.{Sq1State, IsSq1, sq1_puzzle};
 ghost use Rattle.scr_sq1solve.specs.Minima.{needs_test_sq1};
 
-use crate::minima::needs_sq1;
+use crate::minima::Sq1Moves;
 use scr_draw::{NumberedStates, Numbering, Permit};
 use scr_sq1::{Sq1, Sq1Numbers};
+use scr_table::no_shorter;
 
 /// The Square-1: its states by their numbers, and the test of its minima, which needs no tables.
 #[derive(Clone, Copy)]
@@ -53,7 +54,8 @@ impl Permit<Sq1> for DrawSq1 {
     ghost needs = { λ _. needs_test_sq1 };
 
     fn needs_at_least(&self, state: &Sq1, least: u32) -> bool {
-        needs_sq1(state, least)
+        state.is_valid();
+        no_shorter(&Sq1Moves, state, least)
     }
 
     ghost exact = { λ event s least _ _ valid. event.exact s least valid };

@@ -4,8 +4,10 @@ ghost use Rattle.scr_combinatorics.specs.Reach.{Needs};
 ghost use Rattle.scr_sq1.specs.Units.{solved_sq1, sq1_puzzle};
 ghost use Rattle.scr_sq1solve.specs.Minima.{needs_test_sq1};
 
+use crate::draw::DrawSq1;
+use scr_draw::Permit;
 use scr_sq1::{Sq1, TURNS, TWIST};
-use scr_table::{Moves, no_shorter};
+use scr_table::Moves;
 
 /// Whether no word of fewer than `least` turns, of the layers and twists, brings a Square-1 to solved. `least` is at
 /// most 4.
@@ -15,11 +17,11 @@ pub fn needs_sq1(state: &Sq1, least: u32) -> bool
     ensures tested { result ≡ needs_test_sq1 state.now least }
 {
     state.is_valid();
-    no_shorter(&Sq1Moves, state, least)
+    DrawSq1::new().needs_at_least(state, least)
 }
 
 /// The turns of the layers and the twist, by their numbers.
-struct Sq1Moves;
+pub(crate) struct Sq1Moves;
 
 impl Moves for Sq1Moves {
     ghost use Rattle.scr_sq1solve.specs.Minima.{sq1_moves};

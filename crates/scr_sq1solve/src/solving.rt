@@ -6,8 +6,7 @@ ghost use Rattle.scr_sq1.specs.Units.{solved_sq1, sq1_after};
 ghost use Rattle.scr_sq1solve.specs.Counts.{IsWithinBounds};
 ghost use Rattle.scr_sq1tables.specs.Stages.{IsScrambleSq1};
 
-use crate::totals::total_of;
-use crate::walks::stage_word;
+use crate::short::scramble_sq1_short;
 use scr_notation::Scramble;
 use scr_sq1::Sq1;
 use scr_sq1tables::Sq1Tables;
@@ -17,6 +16,6 @@ use scr_sq1tables::Sq1Tables;
 pub fn scramble_sq1(tables: &Sq1Tables, state: &Sq1) -> Scramble
     ensures { IsTheScramble EventSq1 IsScrambleSq1 IsWithinBounds (play sq1_after solved_sq1) state.now result }
 {
-    let word = stage_word(tables.shapes(), state);
-    total_of(tables, state, &word[..]).taken_back()
+    state.is_valid();
+    scramble_sq1_short(tables, state, 1)
 }

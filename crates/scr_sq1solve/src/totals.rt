@@ -2,21 +2,20 @@
 ghost use Rattle.std.specs.Prelude.{◌≡◌, ◌+◌, ◌*◌, ◌≤◌, ◌++◌, [], if◌then◌else◌, List, Some, IsTrue, length};
 ghost use Rattle.scr_combinatorics.specs.Play.{play};
 ghost use Rattle.scr_combinatorics.specs.Back.{back};
-ghost use Rattle.scr_combinatorics.specs.Stages.{spelled};
 ghost use Rattle.scr_combinatorics.specs.Tidy.{tidy};
 ghost use Rattle.scr_notation.specs.declared.event.Event.TheVariants.{Sq1 as EventSq1};
 ghost use Rattle.scr_notation.specs.declared.turn.Turn.{Turn as Letter};
 ghost use Rattle.scr_notation.specs.Turning.{opposite, turn_merging};
 ghost use Rattle.scr_sq1.specs.Units.{IsSq1, solved_sq1, sq1_after};
-ghost use Rattle.scr_sq1solve.specs.Counts.{twists_in, Costs, IsWithinBounds};
-ghost use Rattle.scr_sq1tables.specs.Stages.{equator_word, shape_letter, shape_stage};
+ghost use Rattle.scr_sq1solve.specs.Counts.{twists_in, IsWithinBounds};
+ghost use Rattle.scr_sq1tables.specs.Stages.{equator_word};
 ghost use Rattle.scr_sq1solve.specs.Totals.{IsTotal};
 ghost use Rattle.scr_sq1tables.specs.ShapeWords.{is_shape_word};
 
-use crate::walks::{Walk, end_walk, stage_walk, walked};
+use crate::walks::{end_walk, stage_walk, walked};
 use scr_notation::{Event, NumberedWord, Scramble};
 use scr_sq1::Sq1;
-use scr_sq1tables::{Sq1Tables, StageLetters, equator_word};
+use scr_sq1tables::{Sq1Tables, StageLetters, pairings_index, square_index};
 
 /// The solution that a word to the square shape begins, tidied: its total, of at most 76 twists and 153 turns. The word
 /// is told by the numbers of its letters, which are below 144, and is a shape word of the state, of at most 13 letters;
@@ -44,10 +43,14 @@ pub(crate) fn total_of(tables: &Sq1Tables, state: &Sq1, shape_word: &[u8]) -> Nu
     ensures valid { IsSq1 state.now }
 {
     state.is_valid();
-    let shaped = shape_walk(state, shape_word);
+    let shaped = walked(StageLetters::OfShapes, shape_word, state);
     let squared = end_walk(StageLetters::Squarings, &shaped.end);
-    let paired = stage_walk(tables.pairings(), &squared.end);
-    let homed = stage_walk(tables.square(), &paired.end);
+    let paired = stage_walk(
+        tables.pairings(),
+        pairings_index(&squared.end),
+        &squared.end,
+    );
+    let homed = stage_walk(tables.square(), square_index(&paired.end), &paired.end);
     let last = end_walk(StageLetters::Quarters, &homed.end);
     let homing = joined(&homed.turns, &last.turns);
     let pairing = joined(&paired.turns, &homing);
@@ -56,28 +59,15 @@ pub(crate) fn total_of(tables: &Sq1Tables, state: &Sq1, shape_word: &[u8]) -> Nu
     joined(&equator_part(&last.end), &shaping)
 }
 
-/// The turns of a shape word of at most 13 letters, and where they lead.
-fn shape_walk(state: &Sq1, shape_word: &[u8]) -> Walk
-    requires shape_word { IsTrue (is_shape_word state.now shape_word.now) }
-    requires short { length shape_word.now ≤ 13 }
-    ensures event { result.turns.event ≡ EventSq1 }
-    ensures turns { result.turns.turns ≡ spelled shape_letter shape_word.now }
-    ensures end { play sq1_after state.now result.turns.turns ≡ Some result.end }
-    ensures goal { shape_stage.IsGoal result.end }
-    ensures costs { Costs result.turns.turns 26 13 }
-{
-    walked(StageLetters::OfShapes, shape_word, state)
-}
-
-/// The word that turns the equator alone, where it stands turned.
-#[tactic(auto, unfolding(scr_combinatorics::specs::Play::count_in))]
+/// The word that turns the equator alone, where it stands turned: (6,0) three times, each time behind a twist.
+#[tactic(auto, unfolding(scr_combinatorics::specs::Play::count_in, scr_notation::specs::TurnNumbers::turn_at, scr_notation::specs::TurnNumbers::layer_turn_at))]
 fn equator_part(state: &Sq1) -> NumberedWord
     ensures event { result.event ≡ EventSq1 }
     ensures turns { result.turns ≡ (if state.now.equator then equator_word else []) }
     ensures twists { twists_in result.turns ≤ 3 }
 {
     if state.equator() {
-        equator_word()
+        NumberedWord::of(Event::Sq1, &[65, 137, 65, 137, 65, 137])
     } else {
         NumberedWord::new(Event::Sq1)
     }

@@ -1,7 +1,7 @@
 -- The third stage: a state in which mates stand together is told by its index, but for the equator, and so its index
 -- goes along with words.
-use Rattle.std.proofs.Common.{◌≡◌, ℕ, ◌+◌, ◌*◌, ◌/◌, ◌%◌, ◌<◌, Bool, true, false, List, Option, Some, None, refl, sym, ap, ◌∙◌, arith, lit<}
-use Rattle.std.specs.Option.{option_map}
+use Rattle.std.proofs.Common.{◌≡◌, ℕ, ◌+◌, ◌*◌, ◌/◌, ◌%◌, ◌<◌, Bool, true, false, List, nat_eq, Option, Some, None, refl, sym, ap, ◌∙◌, arith, lit<}
+use Rattle.std.specs.Option.{option_map, option_eq}
 use Rattle.scr_combinatorics.specs.Permutations.{parity, inversions}
 use Rattle.scr_combinatorics.specs.Play.{play}
 use Rattle.scr_combinatorics.proofs.OneLetter.{IsEnding}
@@ -24,8 +24,7 @@ use Rattle.scr_sq1tables.proofs.Renamed.{flipped, play-flipped}
 use Rattle.scr_sq1tables.proofs.Indexed.{IsIndex, Follows-index, StaysBelow-index}
 use Rattle.scr_sq1tables.proofs.PairingStage.{pieces-permutation, pieces-paired, IsPaired-after, IsKept-home, IsKept-quarters, IsMovedBy, IsPaired-moved}
 use Rattle.scr_sq1tables.proofs.ShapeStage.{oddness-solved, IsSquareOf-lists}
-use Rattle.std.specs.Prelude.{◌==◌, IsSome, is_some}
-use Rattle.std.proofs.lemmas.Bool.{ne_eqb}
+use Rattle.std.specs.Prelude.{IsSome, is_some}
 use Rattle.std.proofs.lemmas.Option.{same_Some}
 use Rattle.scr_combinatorics.specs.Stages.{by_letters}
 use Rattle.scr_combinatorics.proofs.PlayLaws.{map-some}
@@ -257,23 +256,11 @@ module _ {letter : ℕ → List Turn} (kept : IsKept letter) {corners rows : Coo
     row : cs ≡ code Corners
     row = same_Some cs (code Corners) (a ∙ corners-made)
 
-    -- where the corners aren't brought home
-    pub elsewhere : (cs ≡ 0 → ⊥)
-        → (cs == 0) ≡ has_number 0 (option_map square_index (by_letters sq1_after 32 letter (square_state p) t))
-    elsewhere away =
-        ne_eqb cs 0 away
-        ∙ sym (ap (has_number 0) index_after ∙ ne_eqb (place_in_row (code Edges) + 192 * code Corners) 0 (λ e. away (omega (arith, e, row))))
-
-    pub made : {low n : ℕ} → Some low ≡ rows.after (row_place p) t → n ≡ low + 192 * cs
+    pub made : {low n r : ℕ} → r ≡ row_place p → Some low ≡ rows.after r t → n ≡ low + 192 * cs
         → Some n ≡ option_map square_index (by_letters sq1_after 32 letter (square_state p) t)
-    made {low} {n} b e =
-        let place : low ≡ place_in_row (code Edges) = same_Some low (place_in_row (code Edges)) (b ∙ rows-made refl) in
+    made {low} {n} {r} is b e =
+        let place : low ≡ place_in_row (code Edges) = same_Some low (place_in_row (code Edges)) (b ∙ rows-made is) in
         ap Some {x = n} {y = place_in_row (code Edges) + 192 * code Corners} (omega (arith, e, row, place)) ∙ sym index_after
-
-    -- where they are, the place in the row tells
-    pub told_by_place : {low : ℕ} → cs ≡ 0 → Some low ≡ rows.after (row_place p) t
-        → (low == 0) ≡ has_number 0 (option_map square_index (by_letters sq1_after 32 letter (square_state p) t))
-    told_by_place {low} first b = ap (λ n. n == 0) {x = low} {y = low + 192 * cs} (omega (arith, first)) ∙ ap (has_number 0) (made b refl)
 
 -- what the index after a turn by quarters tells
 pub quarter-tested : (l : StageLetters) (p n : ℕ) → l ≡ Quarters → n < 32
@@ -282,3 +269,8 @@ unfolding square_index code_number bits_number pairs_number corners_of edges_of
 quarter-tested l p n is lt =
     ap (λ o. has_number 0 (option_map square_index o)) (sym (by_letters-played sq1_after 32 quarter_word (square_state p) n lt))
     ∙ ap (λ k. has_number 0 (option_map square_index (by_letters sq1_after 32 (letter_of k) (square_state p) n))) (sym is)
+
+-- whether it is the first one
+pub is_first-tested : (o : Option ℕ) → has_number 0 o ≡ option_eq nat_eq o (Some 0)
+is_first-tested None = refl
+is_first-tested (Some n) = refl

@@ -1,10 +1,12 @@
 -- Letters as words: how they are put together turn by turn.
-use Rattle.std.proofs.Common.{◌≡◌, ℕ, ◌+◌, ◌*◌, ◌/◌, ◌%◌, ◌-◌, ◌<◌, Bool, true, false, cond, List, [], ◌∷◌, ◌++◌, refl, sym, ap, ap₂, ◌∙◌, arith, eqb, eq-eqb, ne_eqb}
+use Rattle.std.proofs.Common.{◌≡◌, ℕ, ◌+◌, ◌*◌, ◌/◌, ◌%◌, ◌-◌, ◌<◌, ◌≤◌, Bool, true, false, cond, List, [], ◌∷◌, ◌++◌, length, take, slice_index, refl, sym, ap, ap₂, ◌∙◌, arith, eqb, eq-eqb, ne_eqb}
 use Rattle.std.specs.Prelude.{ℤ, pos, ◌+ℤ◌, ◌-ℤ◌, ◌==◌, map}
 use Rattle.std.proofs.lemmas.Bool.{cond-true, cond-false}
 use Rattle.std.proofs.lemmas.Bool.Decides.{nat_tests}
+use Rattle.std.proofs.lemmas.Grind.{common_steps}
 use Rattle.std.proofs.lemmas.Int.{ints}
 use Rattle.std.proofs.lemmas.List.{append_assoc, append-nil}
+use Rattle.scr_combinatorics.specs.Stages.{spelled}
 use Rattle.scr_notation.specs.declared.event.Event.TheVariants.{Sq1}
 use Rattle.scr_notation.specs.declared.turn.Turn.{Turn}
 use Rattle.scr_notation.specs.declared.turn.Turn.TheVariants.{Layers, Twist}
@@ -91,3 +93,14 @@ unfolding turn_at
 letter-written v w first later letter numbers is made spelled =
     made ∙ ap (λ (u : Written). record { event = u.event; turns = u.turns ++ map (turn_at (kind_of u.event)) numbers }) is
     ∙ ap written (append_assoc first later (turns numbers) ∙ ap (λ more. first ++ more) (sym spelled))
+
+pub length-layers_word : (n : ℕ) → length (layers_word n) ≤ 1
+length-layers_word n = grind (arith, nat_tests)
+
+-- a word with one letter more
+pub spelled-more : (letter : ℕ → List Turn) (numbers : List ℕ) (k : ℕ) → k < length numbers
+    → spelled letter (take (k + 1) numbers) ≡ spelled letter (take k numbers) ++ letter (slice_index numbers k)
+spelled-more letter numbers k lt = grind (arith, nat_tests, common_steps)
+
+pub spelled-one : (letter : ℕ → List Turn) (n : ℕ) → spelled letter (n ∷ []) ≡ letter n
+spelled-one letter n = append-nil (letter n)

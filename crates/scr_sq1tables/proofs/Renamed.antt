@@ -23,11 +23,11 @@ use Rattle.scr_notation.specs.declared.turn.Turn.TheVariants.{Layers, Twist}
 use Rattle.scr_notation.specs.Layers.{is_layer_turn}
 use Rattle.scr_notation.proofs.Below.{All-from_test}
 use Rattle.scr_sq1.specs.Units.{Sq1State, IsSq1, is_corner, are_of_one_corner, is_open, clockwise, turn_places, twist_places, turned, after_layers, twisted, sq1_after}
-use Rattle.scr_sq1.specs.Shapes.{half_words, IsShape, half_of, shape_of, Fits}
+use Rattle.scr_sq1.specs.Shapes.{half_words, IsShape, half_of, shape_of}
 use Rattle.scr_sq1.specs.Numbers.{corners_of, edges_of, laid, shape_word}
 use Rattle.scr_sq1.proofs.InHalves.{is_open-layers, is_open-valid}
 use Rattle.scr_sq1.proofs.HalfWords.{letters_of}
-use Rattle.scr_sq1.proofs.LaidLaws.{by_pieces}
+use Rattle.scr_sq1.proofs.LaidLaws.{by_pieces, Fits}
 use Rattle.scr_sq1.proofs.Places.{IsTurnTable-turn, IsPermutation-twist_places}
 use Rattle.scr_sq1.proofs.Clockwise.{clockwise-lt}
 use Rattle.scr_sq1.proofs.StatePieces.{StatePieces, StatePieces-valid, LaidState, LaidState-pieces}

@@ -1,5 +1,5 @@
 //! Where letters lead from states in which mates stand opposite to each other.
-ghost use Rattle.std.specs.Prelude.{◌≡◌, ◌<◌, ◌+◌, ◌*◌, ◌/◌, ◌%◌, IfOk, IsSome, Some};
+ghost use Rattle.std.specs.Prelude.{◌≡◌, ◌<◌, ◌+◌, ◌*◌, ◌/◌, ◌%◌, IfOk};
 ghost use Rattle.std.specs.Option.{option_map};
 ghost use Rattle.std.proofs.Props.{props};
 ghost use Rattle.scr_positions.specs.Coordinates.{StaysBelow};
@@ -10,7 +10,7 @@ ghost use Rattle.scr_sq1.specs.Units.{sq1_after};
 ghost use Rattle.scr_sq1tables.specs.declared.stage_letters.StageLetters.TheVariants.{OfHome, Quarters};
 ghost use Rattle.scr_sq1tables.specs.Codes.{codes_coordinate, rows_coordinate};
 ghost use Rattle.scr_sq1tables.specs.Letters.{letter_of};
-ghost use Rattle.scr_sq1tables.specs.Tables.{square_coordinate, square_index, square_state, has_number, row_parity, row_place};
+ghost use Rattle.scr_sq1tables.specs.Tables.{square_coordinate, square_index, square_state};
 ghost use Rattle.scr_sq1tables.specs.Placed.{IsKept};
 ghost use Rattle.scr_combinatorics.specs.Stages.{by_letters};
 
@@ -60,65 +60,19 @@ impl CodeMoves {
         })
     }
 
-    /// The position after a letter.
+    /// The position after a letter, none of which is barred.
     #[inline]
     pub fn after(&self, position: u32, turn: u32) -> Option<u32>
         requires position { position < 73728 }
         requires turn { turn < 32 }
         ensures { result ≡ option_map square_index (by_letters sq1_after 32 (letter_of self.now.letters) (square_state position) turn) }
     {
-        Some(self.place_after(position, turn) + 192 * self.corners_after(position, turn))
-    }
-
-    /// Whether a letter leads to the first position. Mostly the corners tell that it doesn't.
-    #[inline]
-    pub fn leads_home(&self, position: u32, turn: u32) -> bool
-        requires position { position < 73728 }
-        requires turn { turn < 32 }
-        ensures { result ≡ has_number 0
-            (option_map square_index (by_letters sq1_after 32 (letter_of self.now.letters) (square_state position) turn)) }
-    {
-        self.corners_after(position, turn) == 0 && self.place_after(position, turn) == 0
-    }
-
-    /// The code of the list of corners after a letter.
-    #[inline]
-    fn corners_after(&self, position: u32, turn: u32) -> u32
-        requires position { position < 73728 }
-        requires turn { turn < 32 }
-        ensures value { Some result ≡ (moves_coordinate self.now.corners).after (position / 192) turn }
-        ensures below { result < 384 }
-    {
-        target(&self.corners, position / 192, turn)
-    }
-
-    /// The place in its row of the list of edges after a letter.
-    #[inline]
-    fn place_after(&self, position: u32, turn: u32) -> u32
-        requires position { position < 73728 }
-        requires turn { turn < 32 }
-        ensures value { Some result ≡ (moves_coordinate self.now.rows).after (row_place position) turn }
-        ensures below { result < 384 }
-    {
+        let corners = self.corners.after(position / 192, turn)?;
         // whether the list of corners is odd, by the bits of its code
         let bits = position / 192 % 16;
         let odd = (bits % 2 + bits / 2 % 2 + bits / 2 / 2 % 2 + bits / 2 / 2 / 2 % 2) % 2;
-        target(&self.rows, position % 192 + 192 * odd, turn)
-    }
-}
-
-/// Where a letter leads that is not barred.
-#[inline]
-fn target(moves: &MoveTable, position: u32, turn: u32) -> u32
-    requires position { position < (moves_coordinate moves.now).count }
-    requires turn { turn < (moves_coordinate moves.now).turns }
-    requires led { IsSome ((moves_coordinate moves.now).after position turn) }
-    ensures value { Some result ≡ (moves_coordinate moves.now).after position turn }
-    ensures below { result < (moves_coordinate moves.now).count }
-{
-    match moves.after(position, turn) {
-        Some(end) => end,
-        None => unreachable!(),
+        let place = self.rows.after(position % 192 + 192 * odd, turn)?;
+        Some(place + 192 * corners)
     }
 }
 
@@ -170,7 +124,7 @@ impl Coord for SquareMoves {
 
     fn is_goal(&self, position: u32) -> bool {
         for number in 0..16 {
-            if self.quarters.leads_home(position, number) {
+            if self.quarters.after(position, number) == Some(0) {
                 return true;
             }
         }

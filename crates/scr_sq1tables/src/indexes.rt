@@ -16,7 +16,8 @@ pub fn shapes_index(state: &Sq1) -> u32
     ensures below { result < 7356 }
     ensures valid { IsSq1 state.now }
 {
-    let odd = u32::from(is_odd(&state.corners()[..])) + u32::from(is_odd(&state.edges()[..]));
+    let (corners, edges) = state.pieces();
+    let odd = u32::from(is_odd(&corners[..])) + u32::from(is_odd(&edges[..]));
     odd % 2 + 2 * shape_number(&state.shape())
 }
 
@@ -27,9 +28,9 @@ pub fn pairings_index(state: &Sq1) -> u32
     ensures below { result < 11025 }
     ensures valid { IsSq1 state.now }
 {
-    let corners = Pairing8::rank(&carried_pairing(&MATES, &state.corners())) as u32;
-    let edges = Pairing8::rank(&carried_pairing(&MATES, &state.edges())) as u32;
-    corners + 105 * edges
+    let (corners, edges) = state.pieces();
+    let low = Pairing8::rank(&carried_pairing(&MATES, &corners)) as u32;
+    low + 105 * Pairing8::rank(&carried_pairing(&MATES, &edges)) as u32
 }
 
 /// The index in the table `square`, below 73,728, of a normal state in which mates stand opposite to each other.
@@ -39,7 +40,8 @@ pub fn square_index(state: &Sq1) -> u32
     ensures below { result < 73728 }
     ensures valid { IsSq1 state.now }
 {
+    let (corners, edges) = state.pieces();
     // the last bit of the edges' code is told by the others and by the corners
-    let edges = code_of(&state.edges());
-    edges % 8 + 8 * (edges / 16) + 192 * code_of(&state.corners())
+    let code = code_of(&edges);
+    code % 8 + 8 * (code / 16) + 192 * code_of(&corners)
 }

@@ -5,7 +5,7 @@ ghost use Rattle.scr_sq1tables.specs.Tables.{units_after};
 ghost use Rattle.scr_sq1tables.specs.Letters.{letter_of};
 ghost use Rattle.scr_sq1tables.specs.Placed.{pieces};
 
-use crate::stage_letters::{StageLetters, letter};
+use crate::stage_letters::{StageLetters, word_of};
 use scr_sq1::Sq1;
 
 /// Corners, or edges.
@@ -25,7 +25,7 @@ pub(crate) fn letter_places(letters: StageLetters, part: Part) -> [[u8; 8]; 32]
     for number in 0..32 {
         // no letter is barred there
         let state = Sq1::solved()
-            .after_word(&letter(letters, number as u8))
+            .after_word(&word_of(letters, &[number as u8]))
             .unwrap_or(Sq1::solved());
         places[number] = pieces(&state, part);
     }
@@ -37,7 +37,7 @@ fn pieces(state: &Sq1, part: Part) -> [u8; 8]
     ensures { result ≡ pieces part state.now.units }
 {
     match part {
-        Part::Corners => state.corners(),
-        Part::Edges => state.edges(),
+        Part::Corners => state.pieces().0,
+        Part::Edges => state.pieces().1,
     }
 }

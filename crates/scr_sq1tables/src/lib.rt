@@ -5,7 +5,7 @@
 //! their layers; all pieces home. [`Sq1Tables`] are the three tables by which these words are found, each over what its
 //! stage sees of a state as a number (`specs/Tables.antt`), which [`shapes_index`], [`pairings_index`] and
 //! [`square_index`] tell. [`Sq1Tables::shape_words`] gives the first words to the square shape. What the letters are as
-//! turns is said by [`letter`] and [`word_of`]. `scr_sq1solve` walks down these tables.
+//! turns is said by [`word_of`]. `scr_sq1solve` walks down these tables.
 //!
 //! The moves of every table are built of small ones, or of a state for each position, so that no step of a build or a
 //! descent reads a state's number. Only the builds take memory. The crate stands on the Square-1 of `scr_sq1`, on
@@ -28,5 +28,5 @@ mod tables;
 pub use indexes::{pairings_index, shapes_index, square_index};
 pub use lines::{PairingsLine, ShapesLine, SquareLine};
 pub use shape_moves::NORMAL;
-pub use stage_letters::{StageLetters, equator_word, letter, word_of};
+pub use stage_letters::{StageLetters, word_of};
 pub use tables::Sq1Tables;

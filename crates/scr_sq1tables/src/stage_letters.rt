@@ -1,8 +1,7 @@
 //! The letters of the stages, as words of turns.
-ghost use Rattle.std.specs.Prelude.{◌≡◌, ◌+◌, ◌<◌, ◌≤◌, ◌++◌, All, length, map};
+ghost use Rattle.std.specs.Prelude.{◌≡◌, ◌<◌, ◌≤◌, ◌++◌, All, length, map};
 ghost use Rattle.scr_notation.specs.declared.event.Event.TheVariants.{Sq1 as EventSq1};
 ghost use Rattle.scr_notation.specs.TurnNumbers.{layer_turn_at};
-ghost use Rattle.scr_sq1tables.specs.Stages.{equator_word};
 ghost use Rattle.scr_sq1tables.specs.Letters.{first_word, layers_word, letter_of};
 ghost use Rattle.scr_combinatorics.specs.Stages.{spelled};
 
@@ -26,16 +25,6 @@ pub enum StageLetters {
 /// The number of the twist among a Square-1's turns: it stands where the turn would that leaves both layers.
 const TWIST: u8 = 65;
 
-/// The word of the letter with a number, which is below 144.
-pub fn letter(letters: StageLetters, number: u8) -> NumberedWord
-    requires { number < 144 }
-    ensures { result ≡ record { event = EventSq1; turns = letter_of letters number } }
-{
-    let mut word = NumberedWord::new(Event::Sq1);
-    push_letter(&mut word, letters, number);
-    word
-}
-
 /// The turns of a word of at most 25 letters, whose numbers are below 144.
 pub fn word_of(letters: StageLetters, numbers: &[u8]) -> NumberedWord
     requires numbers { All (λ number. number < 144) numbers.now }
@@ -44,32 +33,13 @@ pub fn word_of(letters: StageLetters, numbers: &[u8]) -> NumberedWord
 {
     let mut word = NumberedWord::new(Event::Sq1);
     for place in 0..numbers.len() {
-        push_letter(&mut word, letters, numbers[place]);
+        let first = first_number(letters, numbers[place]);
+        if first != TWIST {
+            word.push(first);
+        }
+        word.push_all(later_numbers(letters, numbers[place]));
     }
     word
-}
-
-/// The word that turns the equator alone.
-#[tactic(auto, unfolding(scr_notation::specs::TurnNumbers::turn_at, scr_notation::specs::TurnNumbers::layer_turn_at))]
-pub fn equator_word() -> NumberedWord
-    ensures { result ≡ record { event = EventSq1; turns = equator_word } }
-{
-    NumberedWord::of(Event::Sq1, &[TWIST, 137, TWIST, 137, TWIST, 137])
-}
-
-/// Adds the turns of the letter with a number, which is below 144, to a word with room for six more.
-fn push_letter(word: &mut NumberedWord, letters: StageLetters, number: u8)
-    requires number { number < 144 }
-    requires event { word.old.event ≡ EventSq1 }
-    requires room { length word.old.turns + 6 ≤ 160 }
-    ensures word { word.new ≡ record { event = EventSq1; turns = word.old.turns ++ letter_of letters number } }
-    ensures few { length word.new.turns ≤ length word.old.turns + 6 }
-{
-    let first = first_number(letters, number);
-    if first != TWIST {
-        word.push(first);
-    }
-    word.push_all(later_numbers(letters, number));
 }
 
 /// The number of the turn of the layers with which the letter with a number begins: the twist's where it begins with

@@ -9,7 +9,6 @@ use Rattle.scr_cube.proofs.Parity.{parity_by}
 use Rattle.scr_orbit.proofs.Places.{pick_by_places}
 use Rattle.scr_stages.proofs.Blocks.{IsPlaceSet-places_in, length-places}
 use Rattle.scr_stages.proofs.DominoLaws.{IsPlaceSet-first_places}
-use Rattle.scr_stages.proofs.HalfSteps.{AreParts-at}
 use Rattle.scr_stages.proofs.StageSpaces.{IsPlaceSet-middle_places}
 use Rattle.scr_stages.proofs.TetradLaws.{IsPermutation-places}
 use Rattle.scr_stages.proofs.TetradTests.{All-axes, axes_of-read, corners_indexed, corners_related-table, half_list}
@@ -22,11 +21,11 @@ pub ruleset block_turns = (length-set, take_more_set, map_push, map_more, get_or
 
 pub ruleset corners_at = (other_places-reversed, IsPermutation-places, IsPlaceSet-at, corners_indexed, corners_related-table)
 
-pub ruleset places_of_tetrad = (length-places, IsPlaceSet-places_in)
+pub ruleset tetrad_at = (length-places, IsPlaceSet-places_in)
 
 pub ruleset half_corners_at = (All-permutation, All-axes, half_list)
 
-pub ruleset parts = (AreParts-at, mod_below)
+pub ruleset half_moves_after = (mod_below)
 
 pub ruleset parities = (fill_by_more, length-set, parity_by)
 
@@ -36,7 +35,7 @@ pub ruleset arrange = (place_of-lt, inverse-at, length-inverse, pick_by_places)
 
 pub ruleset axes_of = (axes_of-read)
 
-pub ruleset relation_number = (relation_number-read)
+pub ruleset corner_index = (relation_number-read)
 
 pub ruleset second_with = (second_with-read)
 

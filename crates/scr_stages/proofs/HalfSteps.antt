@@ -27,7 +27,6 @@ use Rattle.scr_positions.specs.Moves.{Moves, moves_coordinate}
 use Rattle.scr_cube.specs.Cube333.{CubeState, cube_monoid, solved_cube}
 use Rattle.scr_cube.proofs.Holds.{at_both}
 use Rattle.scr_stages.specs.declared.half_moves.HalfMoves.{HalfMoves}
-use Rattle.scr_stages.specs.declared.half_parts.HalfParts.{HalfParts}
 
 -- ---- the corners
 
@@ -107,17 +106,21 @@ AreParts-digits half s f q lh ls lf lq odd e =
       corners_is = sym (ap (λ ds. get_or ds 3 0) again);
     }
 
--- what the code tells of a number's parts
-pub AreParts-at : (p : ℕ) (at : p < 663552) (odd : ℕ)
-    → odd ≡ parity (permutation_at 4 (p / 12 / 24 % 24)) + parity (permutation_at 4 (p / 12 % 24)) + parity (permutation_at 4 (2 * (p % 12)))
-    → AreParts (half_cubes.state_at p) (2 * (p % 12) + odd % 2) (p / 12 % 24) (p / 12 / 24 % 24) (p / 12 / 24 / 24)
-AreParts-at p at odd e =
+-- the parts of the cube with a number, as the code tells them
+pub AreParts-at : (me : HalfMoves) (p : ℕ) (at : p < 663552)
+    → let odd = get_or me.odd (p / 12 / 24 % 24) 0 + get_or me.odd (p / 12 % 24) 0 + get_or me.odd (2 * (p % 12)) 0 in
+    AreParts (half_cubes.state_at p) (2 * (p % 12) + odd % 2) (p / 12 % 24) (p / 12 / 24 % 24) (p / 12 / 24 / 24)
+AreParts-at me p at =
+    let lh = mod_below p 12 (lit< tt) in
+    let ls = mod_below (p / 12) 24 (lit< tt) in
+    let lf = mod_below (p / 12 / 24) 24 (lit< tt) in
     let q = p / 12 / 24 / 24 in
     let lq : q < 96 = omega (arith, at) in
     let same : q % 96 ≡ q = omega (arith, lq) in
+    let odd = get_or me.odd (p / 12 / 24 % 24) 0 + get_or me.odd (p / 12 % 24) 0 + get_or me.odd (2 * (p % 12)) 0 in
     subst (λ k. AreParts (half_cube_of_digits (p % 12 ∷ p / 12 % 24 ∷ p / 12 / 24 % 24 ∷ k ∷ [])) (2 * (p % 12) + odd % 2) (p / 12 % 24) (p / 12 / 24 % 24) q) (sym same)
-    (AreParts-digits (p % 12) (p / 12 % 24) (p / 12 / 24 % 24) q (mod_below p 12 (lit< tt)) (mod_below (p / 12) 24 (lit< tt))
-    (mod_below (p / 12 / 24) 24 (lit< tt)) lq odd e)
+    (AreParts-digits (p % 12) (p / 12 % 24) (p / 12 / 24 % 24) q lh ls lf lq odd
+    (omega (arith, me.parities _ lf, me.parities _ ls, me.parities (2 * (p % 12)) (omega (arith, lh)))))
 
 -- the number of a half cube by its parts
 pub number-by_parts : (c : CubeState) (middle second first corners : ℕ) → AreParts c middle second first corners
@@ -159,32 +162,31 @@ module _ (c d : CubeState) (half : IsHalfCube c) (t : ℕ) (lt : t < 6) (to : af
       part_to (half_block_coordinate block) _ (λ d. permutation_number (in_block block d.edges.pieces)) (Follows-half_block block b) lt
 
 -- the parts are turned each by itself
-module _ (me : HalfMoves) (p : ℕ) (at : p < 663552) (parts turned : HalfParts)
-    (is : AreParts (half_cubes.state_at p) parts.middle parts.second parts.first parts.corners) (t : ℕ) (lt : t < 6)
-    (middle : IsTarget me.middle parts.middle t turned.middle) (second : IsTarget me.second parts.second t turned.second)
-    (first : IsTarget me.first parts.first t turned.first) (corners : IsTarget me.corners parts.corners t turned.corners) where
+module _ (me : HalfMoves) (p : ℕ) (at : p < 663552) (m s f q m' s' f' q' : ℕ)
+    (is : AreParts (half_cubes.state_at p) m s f q) (t : ℕ) (lt : t < 6) (middle : IsTarget me.middle m t m')
+    (second : IsTarget me.second s t s') (first : IsTarget me.first f t f') (corners : IsTarget me.corners q t q') where
   half : IsHalfCube (half_cubes.state_at p)
   half = half_cubes-numbered.one_to_one.valid p at
 
   to : (d : CubeState) × (after_of half_turns (half_cubes.state_at p) t ≡ Some d)
   to = turned_cube (half_cubes.state_at p) t lt
 
-  AreParts-turned : AreParts to.0 turned.middle turned.second turned.first turned.corners
+  AreParts-turned : AreParts to.0 m' s' f' q'
   AreParts-turned =
       let block = block_to (half_cubes.state_at p) to.0 half t lt to.1 in
       record {
-        middle_is = block middle_edges IsHalfBlock-middle me.middle me.shows_middle parts.middle turned.middle is.middle_is middle;
-        second_is = block second_edges IsHalfBlock-second me.second me.shows_second parts.second turned.second is.second_is second;
-        first_is = block first_edges IsHalfBlock-first me.first me.shows_first parts.first turned.first is.first_is first;
+        middle_is = block middle_edges IsHalfBlock-middle me.middle me.shows_middle m m' is.middle_is middle;
+        second_is = block second_edges IsHalfBlock-second me.second me.shows_second s s' is.second_is second;
+        first_is = block first_edges IsHalfBlock-first me.first me.shows_first f f' is.first_is first;
         corners_is = part_to (half_cubes.state_at p) to.0 half t lt to.1 half_corners_coordinate _ (λ d. half_corners_number d.corners.pieces)
-            Follows-half_corners lt me.corners me.shows_corners parts.corners turned.corners is.corners_is corners;
+            Follows-half_corners lt me.corners me.shows_corners q q' is.corners_is corners;
       }
 
-  pub turned_below : ArePartNumbers turned.middle turned.second turned.first turned.corners
+  pub turned_below : ArePartNumbers m' s' f' q'
   turned_below =
-      part_numbers to.0 turned.middle turned.second turned.first turned.corners (IsHalfCube-after (half_cubes.state_at p) to.0 t half to.1) AreParts-turned
+      part_numbers to.0 m' s' f' q' (IsHalfCube-after (half_cubes.state_at p) to.0 t half to.1) AreParts-turned
 
   pub turned_number : (n : ℕ)
-      → ((cube : CubeState) → AreParts cube turned.middle turned.second turned.first turned.corners → n ≡ half_cubes.number_of cube)
+      → ((cube : CubeState) → AreParts cube m' s' f' q' → n ≡ half_cubes.number_of cube)
       → Some n ≡ halves_coordinate.after p t
   turned_number n by = ap Some (by to.0 AreParts-turned) ∙ sym (ap (option_map half_cubes.number_of) to.1)

@@ -6,47 +6,46 @@ ghost use Rattle.scr_combinatorics.specs.PlaceSets.{IsPlaceSet};
 ghost use Rattle.scr_stages.specs.Tetrads.{axes_of, corner_index, places_of_tetrad};
 
 use crate::corner_lists::CornerNumbers;
-use crate::places::arrange;
-use crate::tetrads::{FIRST_TETRAD, RELATED, SECOND_TETRAD, axes_of, joined, relation_number};
+use crate::places::{arrange, place_of};
+use crate::tetrads::{FIRST_TETRAD, RELATED, SECOND_TETRAD, axes_of, joined};
 use scr_coord::places_of;
 use scr_orbit::pick_into;
 use scr_rank::Choose;
+use scr_rank::permutations::rank_permutation;
 
 /// The index of a list of corners, below 420.
-#[tactic(auto, unfolding(crate::specs::Tetrads::corner_index, crate::specs::Tetrads::relation_of))]
+#[tactic(auto, using(crate::proofs::Cited::corner_index), unfolding(crate::specs::Tetrads::corner_index, crate::specs::Tetrads::relation_of))]
 pub(crate) fn corner_index(corners: &[u8; 8]) -> u32
     requires { IsPermutation 8 corners.now }
     ensures value { result ≡ corner_index corners.now }
     ensures below { result < 420 }
 {
-    let first = places_of_tetrad(&FIRST_TETRAD, corners);
-    let second = places_of_tetrad(&SECOND_TETRAD, corners);
-    let relation = relation_number(&axes_at(corners, &first), &axes_at(corners, &second));
+    let (first, axes) = tetrad_at(&FIRST_TETRAD, corners);
+    let (_, others) = tetrad_at(&SECOND_TETRAD, corners);
+    // how the axes of one are to those of the other, as the number of a list of three
+    let relation = rank_permutation(&[
+        place_of(axes[0], &others[..]) as u8,
+        place_of(axes[1], &others[..]) as u8,
+        place_of(axes[2], &others[..]) as u8,
+    ]) as u32;
     relation + 6 * Choose::<8, 4>::rank(&first) as u32
 }
 
-/// The places of a tetrad's corners, in increasing order.
-#[tactic(auto, using(crate::proofs::Cited::places_of_tetrad))]
-fn places_of_tetrad(tetrad: &[u8; 4], corners: &[u8; 8]) -> [u8; 4]
+/// The places of a tetrad's corners, in increasing order, and the axes of the corner at the first of them and each of the
+/// others.
+#[tactic(auto, using(crate::proofs::Cited::tetrad_at))]
+fn tetrad_at(tetrad: &[u8; 4], corners: &[u8; 8]) -> ([u8; 4], [u8; 3])
     requires tetrad { IsPlaceSet 8 4 tetrad.now }
     requires corners { IsPermutation 8 corners.now }
-    ensures places { result ≡ places_of_tetrad tetrad.now corners.now }
-    ensures valid { IsPlaceSet 8 4 result }
+    ensures places { result.0 ≡ places_of_tetrad tetrad.now corners.now }
+    ensures valid { IsPlaceSet 8 4 result.0 }
+    ensures axes { result.1 ≡ axes_of (pick corners.now result.0) }
 {
     let mut places = [0; 4];
     places_of(&tetrad[..], &corners[..], &mut places[..]);
-    places
-}
-
-/// The axes of the corner at the first of four places and each of the others.
-fn axes_at(corners: &[u8; 8], places: &[u8; 4]) -> [u8; 3]
-    requires corners { IsPermutation 8 corners.now }
-    requires places { IsPlaceSet 8 4 places.now }
-    ensures { result ≡ axes_of (pick corners.now places.now) }
-{
     let mut picked = [0; 4];
     pick_into(&corners[..], &places[..], &mut picked[..]);
-    axes_of(&picked)
+    (places, axes_of(&picked))
 }
 
 /// The lists of corners by their index.

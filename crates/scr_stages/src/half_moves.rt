@@ -6,12 +6,12 @@ ghost use Rattle.scr_positions.specs.Coordinates.{StaysBelow};
 ghost use Rattle.scr_positions.specs.Moves.{moves_coordinate};
 ghost use Rattle.scr_positions.specs.SearchSpaces.{ShowsSame};
 ghost use Rattle.scr_stages.specs.Stages.{half_turns, middle_edges};
-ghost use Rattle.scr_stages.specs.Numbers.{first_edges, second_edges, AreParts, ArePartNumbers, half_cubes};
+ghost use Rattle.scr_stages.specs.Numbers.{first_edges, second_edges};
 ghost use Rattle.scr_stages.specs.Tables.{block_turn, edges_by, halves_coordinate, half_corners_coordinate, half_block_coordinate};
 
 use crate::corner_lists::CornerLists;
 use crate::half_corners::HalfCorners;
-use crate::half_parts::{FIRST_EDGES, HalfParts, MIDDLE_EDGES, SECOND_EDGES};
+use crate::half_parts::{FIRST_EDGES, MIDDLE_EDGES, SECOND_EDGES, half_number};
 use crate::stage_turns::{HALF_TURNS, block_edges_turned, corners_turned};
 use scr_coord::Lists;
 use scr_outside::NoMemory;
@@ -86,32 +86,6 @@ impl HalfMoves {
             odd: parities(),
         })
     }
-
-    /// The parts of the cube with a number. Half turns leave the corners even, so of two lists of middle edges with one
-    /// half the cube has the one that makes the edges even.
-    #[inline]
-    #[tactic(auto, using(crate::proofs::Cited::parts))]
-    fn parts(&self, position: u32) -> HalfParts
-        requires { position < 663552 }
-        ensures parts { AreParts (half_cubes.state_at position) result.middle result.second result.first result.corners }
-        ensures below { ArePartNumbers result.middle result.second result.first result.corners }
-    {
-        let half = position % 12;
-        let rest = position / 12;
-        let second = rest % 24;
-        let rest = rest / 24;
-        let first = rest % 24;
-        let corners = rest / 24;
-        let odd = self.odd[first as usize]
-            + self.odd[second as usize]
-            + self.odd[2 * half as usize];
-        HalfParts {
-            middle: 2 * half + u32::from(odd % 2),
-            second,
-            first,
-            corners,
-        }
-    }
 }
 
 impl Coord for HalfMoves {
@@ -127,17 +101,25 @@ impl Coord for HalfMoves {
         6
     }
 
-    // The parts don't depend on the turn, so that a loop over the turns of a position divides once.
+    // The parts don't depend on the turn, so that a loop over the turns of a position divides once. Half turns leave the
+    // corners even, so of two lists of middle edges with one half the cube has the one that makes the edges even.
     #[inline]
+    #[tactic(auto, using(crate::proofs::Cited::half_moves_after))]
     fn after(&self, position: u32, turn: u32) -> Option<u32> {
-        let parts = self.parts(position);
-        let turned = HalfParts {
-            middle: self.middle.target(parts.middle, turn),
-            second: self.second.target(parts.second, turn),
-            first: self.first.target(parts.first, turn),
-            corners: self.corners.target(parts.corners, turn),
-        };
-        Some(turned.number())
+        let half = position % 12;
+        let rest = position / 12;
+        let second = rest % 24;
+        let rest = rest / 24;
+        let first = rest % 24;
+        let odd = self.odd[first as usize]
+            + self.odd[second as usize]
+            + self.odd[2 * half as usize];
+        Some(half_number(
+            self.middle.target(2 * half + u32::from(odd % 2), turn),
+            self.second.target(second, turn),
+            self.first.target(first, turn),
+            self.corners.target(rest / 24, turn),
+        ))
     }
 
     #[inline]

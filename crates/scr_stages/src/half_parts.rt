@@ -2,13 +2,10 @@
 ghost use Rattle.std.specs.Prelude.{◌≡◌, ◌^◌, ◌<◌, ◌≤◌, All};
 ghost use Rattle.scr_combinatorics.specs.Permutations.{factorial, permutation_number};
 ghost use Rattle.scr_cube.specs.Cube333.{CubeState};
-ghost use Rattle.scr_stages.specs.Numbers.{AreParts, ArePartNumbers, IsHalfCube, half_cubes};
+ghost use Rattle.scr_stages.specs.Numbers.{AreParts, ArePartNumbers, half_cubes};
 ghost use Rattle.scr_stages.specs.Tetrads.{in_block};
 
-use crate::corner_lists::CornerNumbers;
-use crate::half_corners::HalfCorners;
 use crate::places::pieces_in_block;
-use scr_cube::Cube;
 use scr_rank::permutations::rank_permutation;
 
 /// The edges UR UL DR DL.
@@ -23,46 +20,16 @@ pub const OUTER_EDGES: [u8; 8] = [0, 1, 2, 3, 4, 5, 6, 7];
 /// FR FL BL BR.
 pub const MIDDLE_EDGES: [u8; 4] = [8, 9, 10, 11];
 
-/// The numbers of the parts of a cube: of its middle edges, second edges, first edges, and corners.
-#[derive(Clone, Copy)]
-pub(crate) struct HalfParts {
-    /// Below 24.
-    pub middle: u32,
-    /// Below 24.
-    pub second: u32,
-    /// Below 24.
-    pub first: u32,
-    /// Below 96.
-    pub corners: u32,
-}
-
-impl HalfParts {
-    /// The parts of a cube that half turns solve.
-    pub fn of(cube: &Cube) -> HalfParts
-        requires { IsHalfCube cube.now }
-        ensures parts { AreParts cube.now result.middle result.second result.first result.corners }
-        ensures below { ArePartNumbers result.middle result.second result.first result.corners }
-    {
-        let edges = cube.edges();
-        HalfParts {
-            middle: block_number(&MIDDLE_EDGES, &edges),
-            second: block_number(&SECOND_EDGES, &edges),
-            first: block_number(&FIRST_EDGES, &edges),
-            corners: HalfCorners::number_of(&cube.corners()),
-        }
-    }
-
-    /// The number of the cube with these parts. Of the number of the middle edges only the half counts: the other parts
-    /// tell the rest.
-    #[inline]
-    pub fn number(&self) -> u32
-        requires { ArePartNumbers self.now.middle self.now.second self.now.first self.now.corners }
-        ensures number { (c : CubeState) → AreParts c self.now.middle self.now.second self.now.first self.now.corners
-            → result ≡ half_cubes.number_of c }
-        ensures below { result < 663552 }
-    {
-        self.middle / 2 + 12 * (self.second + 24 * (self.first + 24 * self.corners))
-    }
+/// The number of the cube with these parts, which half turns solve: the numbers of its middle, second and first edges, each
+/// below 24, and of its corners, below 96. Of the number of the middle edges only the half counts: the other parts tell
+/// the rest.
+#[inline]
+pub(crate) fn half_number(middle: u32, second: u32, first: u32, corners: u32) -> u32
+    requires { ArePartNumbers middle second first corners }
+    ensures number { (c : CubeState) → AreParts c middle second first corners → result ≡ half_cubes.number_of c }
+    ensures below { result < 663552 }
+{
+    middle / 2 + 12 * (second + 24 * (first + 24 * corners))
 }
 
 /// The number of the list of the edges at the places of a block, of at most 12, told by their places in it.

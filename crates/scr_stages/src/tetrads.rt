@@ -1,9 +1,6 @@
 //! The corners of a 3x3x3 by tetrads. Each two corners of a tetrad are at one face together, which is their axis.
 ghost use Rattle.std.specs.Prelude.{◌≡◌, ◌<◌, ◌++◌, All, slice_index};
-ghost use Rattle.scr_stages.specs.Tetrads.{second_tetrad, axes_of, relation_number, second_with};
-
-use crate::places::place_of;
-use scr_rank::permutations::rank_permutation;
+ghost use Rattle.scr_stages.specs.Tetrads.{second_tetrad, axes_of, second_with};
 
 /// Two corners of a tetrad are at one face together. Corners: 0 URF, 1 UFL, 2 ULB, 3 UBR, 4 DFR, 5 DLF, 6 DBL, 7 DRB.
 pub(crate) const FIRST_TETRAD: [u8; 4] = [0, 2, 5, 7];
@@ -65,20 +62,6 @@ pub(crate) fn second_with(place: usize, axes: &[u8; 3]) -> [u8; 4]
         across[usize::from(axes[1])],
         across[usize::from(axes[2])],
     ]
-}
-
-/// How three axes are to three others, as the number of a list of three.
-#[tactic(auto, using(crate::proofs::Cited::relation_number))]
-pub(crate) fn relation_number(axes: &[u8; 3], others: &[u8; 3]) -> u32
-    ensures value { result ≡ relation_number axes.now others.now }
-    ensures below { result < 6 }
-{
-    let places = [
-        place_of(axes[0], others) as u8,
-        place_of(axes[1], others) as u8,
-        place_of(axes[2], others) as u8,
-    ];
-    rank_permutation(&places) as u32
 }
 
 /// Four numbers and four more.

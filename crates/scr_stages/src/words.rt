@@ -5,8 +5,10 @@ ghost use Rattle.scr_cube.specs.Cube333.{IsCube, cube_powers};
 ghost use Rattle.scr_stages.specs.Stages.{flips_stage, slice_stage, tetrads_stage, halves_stage};
 ghost use Rattle.scr_stages.specs.Numbers.{IsUnflippedCube, IsDominoCube, IsHalfCube};
 
+use crate::corner_lists::CornerNumbers;
 use crate::corners::corner_index;
-use crate::half_parts::{FIRST_EDGES, HalfParts, MIDDLE_EDGES};
+use crate::half_corners::HalfCorners;
+use crate::half_parts::{FIRST_EDGES, MIDDLE_EDGES, SECOND_EDGES, block_number, half_number};
 use crate::tables::StageTables;
 use arrayvec::ArrayVec;
 use scr_coord::places_of;
@@ -55,5 +57,11 @@ pub(crate) fn halves_word(tables: &StageTables, cube: &Cube) -> ArrayVec<u8, GRE
     requires { IsHalfCube cube.now }
     ensures { IsStageWord (after_letter cube_powers) halves_stage cube.now result.items }
 {
-    tables.halves.descend(HalfParts::of(cube).number())
+    let edges = cube.edges();
+    tables.halves.descend(half_number(
+        block_number(&MIDDLE_EDGES, &edges),
+        block_number(&SECOND_EDGES, &edges),
+        block_number(&FIRST_EDGES, &edges),
+        HalfCorners::number_of(&cube.corners()),
+    ))
 }

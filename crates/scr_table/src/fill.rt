@@ -5,7 +5,7 @@
 //! taken back, since then they hardly would.
 
 ghost use Rattle.std.specs.Prelude.{◌≡◌, ◌<◌, ◌≤◌, IfOk, length};
-ghost use Rattle.scr_table.specs.Filled.{AreKnown, AreMarked};
+ghost use Rattle.scr_table.specs.Filled.{AreKnown, AreMarked, block_count};
 
 use crate::blocks::{BLOCK, Made, contains};
 use crate::levels::next_level;
@@ -32,11 +32,28 @@ pub(crate) fn filled<R: Threads + Sync, C: Coord + Sync>(
     requires workers { (1 ≤ workers) × (workers ≤ 64) }
     ensures { IfOk result (λ entries. AreKnown (C.coordinate coord.now) bound entries.items) }
 {
-    let mut room = vec![in alloc; UNKNOWN; coord.count() as usize]?;
-    let entries = &mut room[..];
-    // Room for what workers make of each block.
+    let mut entries = vec![in alloc; UNKNOWN; coord.count() as usize]?;
     let mut blocks: Vec<Made> = vec![in alloc; None; entries.len().div_ceil(BLOCK)]?;
-    let blocks = &mut blocks[..];
+    fill(rt, coord, &mut entries[..], &mut blocks[..], bound, workers);
+    Ok(entries)
+}
+
+/// Fills the entries, with room for what workers make of each block.
+fn fill<R: Threads + Sync, C: Coord + Sync>(
+    rt: &R,
+    coord: &C,
+    entries: &mut [u8],
+    blocks: &mut [Made],
+    bound: u8,
+    workers: u32,
+)
+    requires entries { length entries.old ≡ (C.coordinate coord.now).count }
+    requires blocks { length blocks.old ≡ block_count (length entries.old) }
+    requires few_turns { (C.coordinate coord.now).turns ≤ 256 }
+    requires bound { bound ≤ GREATEST_BOUND }
+    requires workers { (1 ≤ workers) × (workers ≤ 64) }
+    ensures { AreKnown (C.coordinate coord.now) bound entries.new }
+{
     let pushed = early_levels(coord, entries, bound);
     let mut first = pushed + 1;
     if !next_level(rt, coord, entries, blocks, pushed, true, workers) {
@@ -45,11 +62,10 @@ pub(crate) fn filled<R: Threads + Sync, C: Coord + Sync>(
     }
     for level in first..bound {
         if !contains(entries, 0, entries.len(), UNKNOWN) {
-            return Ok(room);
+            return;
         }
         next_level(rt, coord, entries, blocks, level, false, workers);
     }
-    Ok(room)
 }
 
 /// Enters the first levels, as many as are cheaper to push, and answers the last of them, at most `bound`: that of the

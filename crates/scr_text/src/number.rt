@@ -15,19 +15,12 @@ pub fn decimal(number: u32) -> ArrayString<10>
     ensures bytes { result.bytes ≡ decimal number }
     ensures at_most_ten { array_string_len result ≤ 10 }
 {
-    if number < 10 {
-        with_digit(ArrayString::new(), number as u8)
+    let mut digits = if number < 10 {
+        ArrayString::new()
     } else {
-        with_digit(decimal(number / 10), (number % 10) as u8)
-    }
-}
-
-fn with_digit(mut digits: ArrayString<10>, digit: u8) -> ArrayString<10>
-    requires room { array_string_len digits < 10 }
-    requires digit { digit < 10 }
-    ensures { result.bytes ≡ digits.bytes ++ (48 + digit) ∷ [] }
-{
-    digits.push((b'0' + digit) as char);
+        decimal(number / 10)
+    };
+    digits.push((b'0' + (number % 10) as u8) as char);
     digits
 }
 
@@ -38,32 +31,17 @@ pub fn number_within(text: &[u8], least: u32, greatest: u32) -> Option<u32>
     ensures exact { result ≡ number_between least greatest text.now }
     ensures range { IfSome result (λ number. (least ≤ number) × (number ≤ greatest)) }
 {
-    number(text).and_then(|number| in_range(least, greatest, number))
-}
-
-fn in_range(least: u32, greatest: u32, number: u32) -> Option<u32>
-    ensures { result ≡ in_range least greatest number }
-{
-    if least <= number && number <= greatest {
-        Some(number)
-    } else {
-        None
-    }
+    number(text).filter(|number| least <= *number && *number <= greatest)
 }
 
 /// The number that a text is, where it is below 2^32.
 fn number(text: &[u8]) -> Option<u32>
     ensures { result ≡ number_between 0 (2 ^ 32 - 1) text.now }
 {
-    if is_number(text) { value(text) } else { None }
-}
-
-/// The number that digits write, where it is below 2^32.
-fn value(digits: &[u8]) -> Option<u32>
-    requires { is_number digits.now ≡ true }
-    ensures { result ≡ in_range 0 (2 ^ 32 - 1) (digits_value 10 digits.now) }
-{
-    match str::from_utf8(digits) {
+    if !is_number(text) {
+        return None;
+    }
+    match str::from_utf8(text) {
         Ok(digits) => digits.parse().ok(),
         Err(_) => unreachable!("digits are text"),
     }

@@ -1,14 +1,14 @@
 -- The test of a minimum is exact.
 use Rattle.std.proofs.Common.{◌≡◌, ℕ, suc, ◌-◌, ◌*◌, ◌<◌, Bool, true, false, cond, IsTrue, List, [], ◌∷◌, map, length, inl, inr}
 use Rattle.std.proofs.Common.{Option, Some, None, refl, sym, ap, ◌∙◌, arith}
-use Rattle.std.specs.Prelude.{All, ◌↔◌, not, nat_lt, option_and_then}
-use Rattle.std.proofs.lemmas.Bool.{cases_lt, ltb-false, not-true, false≢true}
+use Rattle.std.specs.Prelude.{All, ◌↔◌, nat_lt, option_and_then}
+use Rattle.std.proofs.lemmas.Bool.{cases_lt, ltb-false, false≢true}
 use Rattle.std.proofs.lemmas.List.{length-map}
 use Rattle.std.proofs.lemmas.List.Elements.{All-nil, All-cons}
 use Rattle.scr_combinatorics.specs.Play.{play}
 use Rattle.scr_combinatorics.specs.Reach.{Needs}
 use Rattle.scr_combinatorics.proofs.PlayLaws.{play-empty, play-first, play-parts}
-use Rattle.scr_combinatorics.proofs.FirstWordLaws.{IsGoal-empty, LeadsTo-parts}
+use Rattle.scr_combinatorics.proofs.FirstWordLaws.{IsGoal-empty, LeadsTo-cons, LeadsTo-empty, LeadsTo-parts}
 use Rattle.scr_draw.specs.Count.{count_below}
 use Rattle.scr_orbit.specs.Orbits.{solved_orbit}
 use Rattle.scr_orbit.specs.PowerPuzzles.{after_letter, power_puzzle}
@@ -21,7 +21,7 @@ use Rattle.scr_search.specs.Orderly.{after_turn}
 use Rattle.scr_search.proofs.Leads.{same_test}
 use Rattle.scr_twophase.specs.TwoParts.{is_solved}
 use Rattle.scr_table.proofs.TriedWords.{needs_test-iff}
-use Rattle.scr_table.specs.Moves.{after_move, IsSolved, NeedsTurns, HasWordWithin}
+use Rattle.scr_table.specs.Moves.{after_move, IsSolved, NeedsTurns}
 use Rattle.scr_table.proofs.MovesLaws.{turned-turn}
 use Rattle.scr_twophase.specs.Minima.{face_moves, needs_turns, astray, astray_most}
 use Rattle.scr_twophase.proofs.CubeTests.{IsSolved-test}
@@ -100,36 +100,39 @@ NeedsTurns-iff c least = (
       ],
 )
 
--- ---- words of at most so many turns
+-- ---- how many turns words have
 
 astray-solved : astray_most solved_cube ≡ 0
 unfolding astray_most astray count_below solved_cube solved_orbit
 astray-solved = refl
 
--- none leads to solved where they can't bring so many pieces home
-pub none-far : (c : CubeState) (most : ℕ) → IsCube c → 4 * most < astray_most c → HasWordWithin face_moves c most → ⊥
-none-far c most own far (w, l, short) =
+-- a word is long enough to bring all pieces home
+pub NeedsTurns-far : (c : CubeState) (least : ℕ) → IsCube c → 4 * (least - 1) < astray_most c
+    → NeedsTurns face_moves c least
+NeedsTurns-far c least own far w l =
     let home = brought_along c l.end w own (sym (play-turned c w) ∙ l.played) in
-    omega (arith, far, short, home, ap astray_most ((IsSolved-test l.end).0 l.goal) ∙ astray-solved)
+    omega (arith, far, home, ap astray_most ((IsSolved-test l.end).0 l.goal) ∙ astray-solved)
 
--- nor does one of no turn where the cube isn't solved
-pub none-at_once : (c : CubeState) (most : ℕ) → most ≡ 0 → is_solved c ≡ false → HasWordWithin face_moves c most → ⊥
-none-at_once c most zero unsolved ([], l, short) =
-    let solved : is_solved c ≡ true = IsGoal-empty (after_move face_moves) (IsSolved face_moves) c l in
-    false≢true (sym unsolved ∙ solved)
-none-at_once c most zero unsolved (t ∷ w, l, short) = omega (arith, short, zero)
+-- the solved cube needs no turn
+pub NeedsTurns-solved : (c : CubeState) (least : ℕ) → is_solved c ≡ true → 0 < least → NeedsTurns face_moves c least → ⊥
+NeedsTurns-solved c least solved some needs =
+    omega (arith, some, needs [] (LeadsTo-empty (after_move face_moves) (IsSolved face_moves) c solved))
 
--- nor one that begins with a turn, where one turn less doesn't do from the cube after it
-pub none-behind : (c : CubeState) (most : ℕ) → is_solved c ≡ false
-    → ((t : ℕ) (next : CubeState) → t < 18 → after_turn c t ≡ Some next → HasWordWithin face_moves next (most - 1) → ⊥)
-    → HasWordWithin face_moves c most → ⊥
-none-behind c most unsolved none ([], l, short) =
-    let solved : is_solved c ≡ true = IsGoal-empty (after_move face_moves) (IsSolved face_moves) c l in
-    false≢true (sym unsolved ∙ solved)
-none-behind c most unsolved none (t ∷ w, l, short) =
+-- any other one more than the cubes to which a turn leads
+pub NeedsTurns-next : (c next : CubeState) (t least : ℕ) → after_turn c t ≡ Some next → NeedsTurns face_moves c least
+    → NeedsTurns face_moves next (least - 1)
+NeedsTurns-next c next t least to needs w l =
+    omega (arith, needs (t ∷ w) (LeadsTo-cons (after_move face_moves) (IsSolved face_moves) c next t w (turned-after c t ∙ to) l))
+
+pub NeedsTurns-unsolved : (c : CubeState) (least : ℕ) → is_solved c ≡ false
+    → ((t : ℕ) (next : CubeState) → t < 18 → after_turn c t ≡ Some next → NeedsTurns face_moves next (least - 1))
+    → NeedsTurns face_moves c least
+NeedsTurns-unsolved c least unsolved next [] l =
+    absurd (false≢true (sym unsolved ∙ IsGoal-empty (after_move face_moves) (IsSolved face_moves) c l))
+NeedsTurns-unsolved c least unsolved next (t ∷ w) l =
     let parts = LeadsTo-parts (after_move face_moves) (IsSolved face_moves) c t w l in
     let turned = turned-turn face_moves c parts.0 t parts.1 in
-    none t parts.0 turned.0 turned.1 (w, parts.2, omega (arith, short))
+    omega (arith, next t parts.0 turned.0 turned.1 w parts.2)
 
 -- ---- the test
 
@@ -145,32 +148,15 @@ same-as_tested c least b exact =
     let tested = Needs-tested c least in
     same_test b (needs_turns c least) (λ e. tested.1 (exact.0 e)) (λ e. exact.1 (tested.0 e))
 
--- what answers whether there is a word of a turn less
+-- what answers whether each word that leads to solved has so many turns
 pub record IsTested (c : CubeState) (least : ℕ) (b : Bool) : Type 0 where
   pub test : b ≡ needs_turns c least
   pub exact : IsTrue b ↔ Needs (power_puzzle cube_powers) c least
 
-pub IsTested-none : (c : CubeState) (least : ℕ) → least ≡ 0 → IsTested c least true
-IsTested-none c least zero =
-    let exact : IsTrue true ↔ Needs (power_puzzle cube_powers) c least =
-    (λ e w end few played solved. omega (arith, few, zero), λ needs. refl) in
-    record { test = same-as_tested c least true exact; exact = exact }
-
-pub IsTested-within : (c : CubeState) (least : ℕ) (within : Bool) → 0 < least
-    → IsTrue within ↔ HasWordWithin face_moves c (least - 1) → IsTested c least (not within)
-IsTested-within c least within some h =
-    let exact : IsTrue (not within) ↔ Needs (power_puzzle cube_powers) c least = (
-      λ e. (NeedsTurns-iff c least).0 (λ w l.
-          elim (cases_lt (length w) least) [
-            | inl less ↦ absurd (false≢true (sym (not-true within e) ∙ h.1 (w, l, omega (arith, less))))
-            | inr le ↦ le
-          ]),
-      λ needs. is_false within (λ e.
-          let word = h.0 e in
-          omega (arith, some, word.2, (NeedsTurns-iff c least).1 needs word.0 word.1)),
-    ) in
-    record { test = same-as_tested c least (not within) exact; exact = exact }
-  where
-    is_false : (b : Bool) → (IsTrue b → ⊥) → IsTrue (not b)
-    is_false true none = absurd (none refl)
-    is_false false none = refl
+pub IsTested-by : (c : CubeState) (least : ℕ) (b : Bool) → IsTrue b ↔ NeedsTurns face_moves c least
+    → IsTested c least b
+IsTested-by c least b h =
+    let same = NeedsTurns-iff c least in
+    let exact : IsTrue b ↔ Needs (power_puzzle cube_powers) c least =
+    (λ e. same.0 (h.0 e), λ needs. h.1 (same.1 needs)) in
+    record { test = same-as_tested c least b exact; exact = exact }

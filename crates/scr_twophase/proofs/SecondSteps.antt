@@ -4,17 +4,14 @@ use Rattle.std.specs.Prelude.{◌&&◌, ◌==◌, filter, slice_get}
 use Rattle.std.specs.Option.{option_map_or}
 use Rattle.std.proofs.Math.Bool.{and-true}
 use Rattle.std.proofs.Math.Path.{fun_ext}
-use Rattle.std.proofs.lemmas.List.{get_or-map, length-map}
-use Rattle.std.proofs.lemmas.Option.{same_Some}
+use Rattle.std.proofs.lemmas.List.{get_or-map}
 use Rattle.scr_combinatorics.specs.Lists.{numbers_from, pick}
 use Rattle.scr_combinatorics.specs.Permutations.{permutation_number}
-use Rattle.scr_combinatorics.specs.Play.{play}
 use Rattle.scr_combinatorics.proofs.Picks.{pick-in_order}
-use Rattle.scr_combinatorics.proofs.PlayLaws.{play-parts}
 use Rattle.scr_coord.proofs.GoalNumbers.{permutation_number-in_order}
 use Rattle.scr_orbit.specs.declared.placed.PlaceTurn.{PlaceTurn}
 use Rattle.scr_orbit.specs.Orbits.{Orbit, solved_orbit, turned_orbit}
-use Rattle.scr_orbit.specs.PlaceTurns.{made_by}
+use Rattle.scr_orbit.specs.PlaceTurns.{IsTurnTable, made_by}
 use Rattle.scr_orbit.specs.PowerPuzzles.{all_turns, part_turns}
 use Rattle.scr_cube.specs.Cube333.{CubeState, cube_monoid, cube_powers, solved_cube}
 use Rattle.scr_stages.specs.Stages.{middle_edges, domino_turns}
@@ -23,7 +20,6 @@ use Rattle.scr_stages.specs.Tables.{outer_places}
 use Rattle.scr_stages.specs.Tetrads.{in_block}
 use Rattle.scr_stages.proofs.Blocks.{pick-append}
 use Rattle.scr_stages.proofs.DominoLaws.{IsPlaceSet-middle, IsPlaceSet-outer_places, outer-kept}
-use Rattle.std.proofs.lemmas.Simd.{map-map}
 use Rattle.scr_stages.proofs.KeptBlocks.{pick-in_block}
 use Rattle.scr_cube.proofs.ListedTurns.{length-turns}
 use Rattle.scr_stages.proofs.TurnFacts.{tetrads_numbers}
@@ -35,7 +31,6 @@ use Rattle.scr_search.specs.Orderly.{after_turn, is_orderly, leads}
 use Rattle.scr_twophase.specs.TwoParts.{is_solved, is_solution, joined}
 use Rattle.scr_twophase.specs.Tables.{corners_of, outer_edges_of, middle_edges_of}
 use Rattle.scr_search.specs.Search.{IsSearched, first_given}
-use Rattle.scr_twophase.specs.PartPositions.{carried}
 use Rattle.scr_search.specs.Views.{AreViews, Shows, is_whole, part_number}
 use Rattle.scr_twophase.specs.BothParts.{second_views}
 use Rattle.scr_search.proofs.BitSets.{has_turn-all}
@@ -142,33 +137,25 @@ joined-searched c word after found left s =
     find-filter (is_solution c) words ∙ sym (first_given-first (filter (is_solution c) words))
     ∙ ap (λ test. first_given (λ w. Some w) 1 (filter test words)) (sym (whole_is c)) ∙ s.given
 
--- ---- where words lead
+-- ---- where turns lead
 
 -- what a turn in an array carries where is what it does by its number
-module _ {n : ℕ} (part : CubeState → Orbit) (turns : List (PlaceTurn n)) (defined : map made_by turns ≡ part_turns part cube_powers) where
-  turn-places : (t : ℕ) → t < 18
-      → get_or (map (λ u. u.places) turns) t [] ≡ (part (get_or (all_turns cube_powers) t solved_cube)).pieces
-  turn-places t lt =
+module _ {n : ℕ} (part : CubeState → Orbit) {IsTurn : Orbit → Type 0} (turns : List (PlaceTurn n)) (table : IsTurnTable 18 IsTurn (part_turns part cube_powers) turns) (t : ℕ) (x : PlaceTurn n) where
+  turn-places : t < 18 → (get_or turns t x).places ≡ (part (get_or (all_turns cube_powers) t solved_cube)).pieces
+  turn-places lt =
       let all = all_turns cube_powers in
-      let few : t < length all = omega (arith, length-turns, lt) in
-      let mapped : t < length (map part all) = omega (arith, length-map all part, few) in
-      ap (λ xs. get_or xs t []) (sym (map-map (λ (r : Orbit). r.pieces) made_by turns) ∙ ap (map (λ r. r.pieces)) defined)
-      ∙ get_or-map (λ r. r.pieces) (map part all) t (part solved_cube) [] mapped
-      ∙ ap (λ r. r.pieces) (get_or-map part all t solved_cube (part solved_cube) few)
+      ap (λ (r : Orbit). r.pieces) (sym (get_or-map made_by turns t x (part solved_cube) (omega (arith, lt, table.count)))
+      ∙ ap (λ rs. get_or rs t (part solved_cube)) table.defined
+      ∙ get_or-map part all t solved_cube (part solved_cube) (omega (arith, length-turns, lt)))
 
-  -- the pieces of a kind are carried as the turns say
-  pub carried-played : (pieces : CubeState → List ℕ)
+  -- the pieces of a kind are carried as the turn says
+  pub carried : (pieces : CubeState → List ℕ)
       → ((c r : CubeState) → pieces (cube_monoid.turned c r) ≡ pick (pieces c) (part r).pieces)
-      → (c d : CubeState) (word : List ℕ) → play after_turn c word ≡ Some d
-      → carried (map (λ u. u.places) turns) (pieces c) word ≡ pieces d
-  unfolding play
-  carried-played pieces turned c d [] e = ap pieces (same_Some c d e)
-  carried-played pieces turned c d (t ∷ word) e =
-      let parts = play-parts after_turn c d t word e in
-      let next : pieces parts.0 ≡ pick (pieces c) (get_or (map (λ u. u.places) turns) t []) =
-      ap pieces (after_turn-is c parts.0 t parts.1) ∙ turned c (get_or (all_turns cube_powers) t solved_cube)
-      ∙ ap (pick (pieces c)) (sym (turn-places t (turn-below c parts.0 t parts.1))) in
-      ap (λ xs. carried (map (λ u. u.places) turns) xs word) (sym next) ∙ carried-played pieces turned parts.0 d word parts.2
+      → (c d : CubeState) (from to : List ℕ) → after_turn c t ≡ Some d → from ≡ pieces c
+      → to ≡ pick from (get_or turns t x).places → to ≡ pieces d
+  carried pieces turned c d from to leads same is =
+      is ∙ ap (λ xs. pick xs (get_or turns t x).places) same ∙ ap (pick (pieces c)) (turn-places (turn-below c d t leads))
+      ∙ sym (ap pieces (after_turn-is c d t leads) ∙ turned c (get_or (all_turns cube_powers) t solved_cube))
 
 -- of corners and of edges
 pub corners-turned : (c r : CubeState)

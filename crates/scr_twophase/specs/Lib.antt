@@ -2,7 +2,6 @@ pub mod TwoParts
 pub mod Tables
 pub mod Spaces
 pub mod BothParts
-pub mod PartPositions
 pub mod Built
 pub mod Ready
 pub mod Minima

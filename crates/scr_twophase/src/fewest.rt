@@ -3,13 +3,13 @@
 //! Between the two frames stands a scramble of the 3x3x3, for the cube that the frames leave of a state: the frame
 //! taken back, the state, and the frame taken back again (`specs/Fewest.antt`).
 
-ghost use Rattle.std.specs.Prelude.{◌≡◌, ◌+◌, ◌++◌, ◌≤◌, IsTrue, is_some, length};
+ghost use Rattle.std.specs.Prelude.{◌≡◌, ◌+◌, ◌≤◌, IsTrue, is_some, length};
 ghost use Rattle.scr_combinatorics.specs.Play.{play};
 ghost use Rattle.scr_orbit.specs.PowerPuzzles.{after_letter};
 ghost use Rattle.scr_notation.specs.declared.event.Event.TheVariants.{Fm333};
 ghost use Rattle.scr_notation.specs.Written.{at_most, IsTheScramble};
 ghost use Rattle.scr_cube.specs.Cube333.{cube_powers, solved_cube};
-ghost use Rattle.scr_twophase.specs.Fewest.{frame, between, is_frame_at, is_framed, is_turn, IsFramed, IsScrambleFewest};
+ghost use Rattle.scr_twophase.specs.Fewest.{between, is_frame_at, is_framed, is_turn, IsFramed, IsScrambleFewest};
 ghost use Rattle.scr_twophase.specs.TwoParts.{two_parts};
 
 use crate::scramble::scramble_333;
@@ -33,30 +33,16 @@ pub fn scramble_333fm(
     ensures tested { IsTrue (is_framed result.turns) }
     ensures few { IsTrue (is_some (two_parts (between cube.now) tries)) → length result.turns ≤ 28 }
 {
-    let Some(back) = Cube::solved().play(&frame().taken_back()) else {
+    // R' U' F are the turns number 5, 2 and 6.
+    let frame = NumberedWord::of(Event::Fm333, &[5, 2, 6]);
+    let Some(back) = Cube::solved().play(&frame.taken_back()) else {
         unreachable!();
     };
     let between = back.then(&cube.then(&back));
     let middle = scramble_333(prune, stages, &between, tries).with_event(Event::Fm333);
-    framed(&middle)
-}
-
-/// R' U' F, which are the turns number 5, 2 and 6.
-fn frame() -> NumberedWord
-    ensures { result ≡ record { event = Fm333; turns = frame } }
-{
-    NumberedWord::of(Event::Fm333, &[5, 2, 6])
-}
-
-/// A scramble between two frames.
-fn framed(middle: &Scramble) -> Scramble
-    requires event { middle.now.event ≡ Fm333 }
-    requires room { length middle.now.turns ≤ 154 }
-    ensures { result ≡ record { event = Fm333; turns = frame ++ middle.now.turns ++ frame } }
-{
-    let mut scramble = frame().scramble();
-    push_all(&mut scramble, middle);
-    push_all(&mut scramble, &frame().scramble());
+    let mut scramble = frame.scramble();
+    push_all(&mut scramble, &middle);
+    push_all(&mut scramble, &frame.scramble());
     scramble
 }
 

@@ -1,15 +1,24 @@
-//! The first part: what a search for it sees of a cube, and where turns lead.
-ghost use Rattle.scr_search.specs.Views.{Shows};
-ghost use Rattle.scr_twophase.specs.BothParts.{first_views};
+//! The first part: what a search for it sees of a cube, where turns lead, and the search.
+ghost use Rattle.std.specs.Prelude.{◌≡◌, ◌≤◌, IfSome, length};
+ghost use Rattle.std.specs.Option.{option_map};
+ghost use Rattle.scr_notation.specs.declared.event.Event.TheVariants.{C333};
+ghost use Rattle.scr_notation.specs.Written.{numbered_word};
+ghost use Rattle.scr_cube.specs.Cube333.{IsCube};
+ghost use Rattle.scr_twophase.specs.TwoParts.{two_parts};
 
-use crate::second::{SecondPart, position_behind};
+use crate::second::SecondPart;
+use crate::tables::PruneTables;
 use scr_coord::{PlaceSet, Twists, places_of};
-use scr_cube::Cube;
+use scr_cube::{Cube, corner_turns, edge_turns};
+use scr_notation::{Event, NumberedWord};
+use scr_orbit::pick_into;
 use scr_outside::NoMemory;
 use scr_positions::MoveTable;
-use scr_rank::{Choose, TwistRank};
+use scr_rank::{Choose, PermRank, TwistRank};
 use scr_search::{BLOCK, Extent, Part, PartPosition, Search, SearchTables, TurnSet, Word};
-use scr_stages::{ALL_TURNS, MIDDLE_EDGES, corners_turned, edges_turned};
+use scr_stages::{
+    ALL_TURNS, MIDDLE_EDGES, OUTER_EDGES, block_number, corners_turned, edges_turned,
+};
 use scr_table::TableName;
 use std::alloc::Global;
 
@@ -75,7 +84,28 @@ impl Part for FirstPart {
     }
 
     fn give(rest: &SearchTables<SecondPart>, cube: &Cube, word: &mut Word) -> bool {
-        let at = position_behind(cube, word.turns());
+        // Where its pieces stand in the domino to which the word leads.
+        let mut corners = cube.corners();
+        let mut edges = cube.edges();
+        for turn in word.as_slice() {
+            let number = usize::from(*turn);
+            let (corners_before, edges_before) = (corners, edges);
+            pick_into(
+                &corners_before[..],
+                &corner_turns()[number].places[..],
+                &mut corners[..],
+            );
+            pick_into(
+                &edges_before[..],
+                &edge_turns()[number].places[..],
+                &mut edges[..],
+            );
+        }
+        let at = PartPosition {
+            one: PermRank::<8>::rank(&corners) as u32,
+            other: block_number(&OUTER_EDGES, &edges),
+            middle: block_number(&MIDDLE_EDGES, &edges),
+        };
         let second = Search {
             tables: rest,
             rest: &(),
@@ -87,15 +117,29 @@ impl Part for FirstPart {
     ghost short = { lit≤ tt };
 }
 
-/// The position of a cube.
-pub(crate) fn first_position(cube: &Cube) -> PartPosition
-    ensures { Shows first_views cube.now result }
+/// The word of the two parts of a cube: its first part, and the second that it gives.
+pub(crate) fn parts_word(tables: &PruneTables, cube: &Cube, tries: u32) -> Option<NumberedWord>
+    ensures parts { result ≡ option_map (numbered_word C333) (two_parts cube.now tries) }
+    ensures few { IfSome result (λ word. length word.turns ≤ 22) }
+    ensures valid { IsCube cube.now }
 {
     let mut middle = [0; 4];
     places_of(&MIDDLE_EDGES[..], &cube.edges()[..], &mut middle[..]);
-    PartPosition {
+    let at = PartPosition {
         one: TwistRank::<12, 2>::rank(&cube.flips()) as u32,
         other: TwistRank::<8, 3>::rank(&cube.twists()) as u32,
         middle: Choose::<12, 4>::rank(&middle) as u32,
+    };
+    let mut word = Word::new();
+    let mut left = tries;
+    let parts = Search {
+        tables: &tables.first,
+        rest: &tables.second,
+        cube,
+    };
+    if parts.within(&mut word, at, &mut left) {
+        Some(NumberedWord::of(Event::C333, word.as_slice()))
+    } else {
+        None
     }
 }

@@ -2,16 +2,16 @@
 ghost use Rattle.std.specs.Prelude.{◌≡◌, ◌↔◌, ◌≤◌, length, IsTrue};
 ghost use Rattle.scr_combinatorics.specs.Reach.{Needs};
 ghost use Rattle.scr_orbit.specs.PowerPuzzles.{power_puzzle};
-ghost use Rattle.scr_table.specs.Moves.{HasWordWithin};
 ghost use Rattle.scr_cube.specs.Cube333.{cube_powers};
-ghost use Rattle.scr_twophase.specs.Minima.{astray, face_moves, needs_turns};
+ghost use Rattle.scr_twophase.specs.Minima.{astray, needs_turns};
 
 use scr_cube::{Cube, PowerTurned};
 
 /// How many corners a turn moves, and how many edges.
 const MOVED: u32 = 4;
 
-/// Whether no word of fewer than `least` turns solves a cube. `least` is at most 5.
+/// Whether no word of fewer than `least` turns solves a cube. `least` is at most 5. Cubes that have more corners or more
+/// edges astray than so few turns move are not turned.
 pub fn needs_333(cube: &Cube, least: u32) -> bool
     requires { least ≤ 5 }
     ensures test { result ≡ needs_turns cube.now least }
@@ -20,32 +20,23 @@ pub fn needs_333(cube: &Cube, least: u32) -> bool
     if least == 0 {
         return true;
     }
-    !is_within(cube, least - 1)
-}
-
-/// Whether a word of at most `most` turns, at most 4, solves a cube. Cubes that have more corners or more edges astray
-/// than so many turns move are not turned.
-fn is_within(cube: &Cube, most: u32) -> bool
-    requires { most ≤ 4 }
-    ensures { IsTrue result ↔ HasWordWithin face_moves cube.now most }
-{
     if *cube == Cube::solved() {
-        return true;
-    }
-    if most == 0 {
         return false;
+    }
+    if least == 1 {
+        return true;
     }
     let corners = pieces_astray(&cube.corners()[..], &cube.twists()[..]);
     let edges = pieces_astray(&cube.edges()[..], &cube.flips()[..]);
-    if corners.max(edges) > MOVED * most {
-        return false;
+    if corners.max(edges) > MOVED * (least - 1) {
+        return true;
     }
     for turn in 0..18 {
-        if is_within(&cube.turned(turn), most - 1) {
-            return true;
+        if !needs_333(&cube.turned(turn), least - 1) {
+            return false;
         }
     }
-    false
+    true
 }
 
 /// How many pieces of an orbit, at most 12, are astray: not at their places, or there with a digit other than 0.

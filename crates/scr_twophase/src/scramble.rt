@@ -5,15 +5,14 @@ ghost use Rattle.scr_combinatorics.specs.Play.{play};
 ghost use Rattle.scr_orbit.specs.PowerPuzzles.{after_letter};
 ghost use Rattle.scr_notation.specs.declared.event.Event.TheVariants.{C333};
 ghost use Rattle.scr_notation.specs.TurnNumbers.{face_turn_at};
-ghost use Rattle.scr_notation.specs.Written.{at_most, numbered_word, IsTheScramble};
+ghost use Rattle.scr_notation.specs.Written.{at_most, IsTheScramble};
 ghost use Rattle.scr_cube.specs.Cube333.{IsCube, cube_powers, solved_cube};
 ghost use Rattle.scr_twophase.specs.TwoParts.{two_parts, IsScramble333};
 
-use crate::first::first_position;
+use crate::first::parts_word;
 use crate::tables::PruneTables;
 use scr_cube::Cube;
-use scr_notation::{Event, NumberedWord, Scramble};
-use scr_search::{Search, Word};
+use scr_notation::Scramble;
 use scr_stages::{StageTables, scramble_by_stages};
 
 /// The two parts of a cube, joined: the first of its first parts that has a second part, and that. At most `tries`
@@ -38,26 +37,5 @@ pub fn scramble_333(prune: &PruneTables, stages: &StageTables, cube: &Cube, trie
     match parts_word(prune, cube, tries) {
         Some(word) => word.taken_back(),
         None => scramble_by_stages(stages, cube),
-    }
-}
-
-/// The word of the two parts of a cube.
-fn parts_word(tables: &PruneTables, cube: &Cube, tries: u32) -> Option<NumberedWord>
-    ensures parts { result ≡ option_map (numbered_word C333) (two_parts cube.now tries) }
-    ensures few { IfSome result (λ word. length word.turns ≤ 22) }
-    ensures valid { IsCube cube.now }
-{
-    let at = first_position(cube);
-    let mut word = Word::empty();
-    let mut left = tries;
-    let parts = Search {
-        tables: &tables.first,
-        rest: &tables.second,
-        cube,
-    };
-    if parts.within(&mut word, at, &mut left) {
-        Some(NumberedWord::of(Event::C333, word.turns()))
-    } else {
-        None
     }
 }

@@ -1,29 +1,18 @@
 //! The second part: what a search for it sees of a domino, and where turns lead.
-ghost use Rattle.std.specs.Prelude.{◌≡◌, ◌^◌, ◌<◌, ◌≤◌, All, IfOk, Some, length, map};
+ghost use Rattle.std.specs.Prelude.{◌^◌, ◌<◌, ◌≤◌, All, IfOk, map};
 ghost use Rattle.scr_combinatorics.specs.Permutations.{IsPermutation, factorial};
-ghost use Rattle.scr_combinatorics.specs.Play.{play};
 ghost use Rattle.scr_positions.specs.Moves.{moves_coordinate};
 ghost use Rattle.scr_positions.specs.SearchSpaces.{ShowsSame};
 ghost use Rattle.scr_coord.specs.Projections.{pieces_view, projection};
-ghost use Rattle.scr_cube.specs.Cube333.{CubeState};
-ghost use Rattle.scr_stages.specs.Numbers.{IsDominoCube};
 ghost use Rattle.scr_stages.specs.Stages.{domino_turns};
 ghost use Rattle.scr_stages.specs.Tables.{block_turn, edges_by};
-ghost use Rattle.scr_twophase.specs.PartPositions.{carried};
-ghost use Rattle.scr_search.specs.Orderly.{after_turn};
-ghost use Rattle.scr_search.specs.Views.{Shows};
-ghost use Rattle.scr_twophase.specs.BothParts.{second_views};
 
-use scr_coord::{Lists, PlaceTurn};
-use scr_cube::{Cube, corner_turns, edge_turns};
-use scr_orbit::pick_into;
+use scr_coord::Lists;
+use scr_cube::Cube;
 use scr_outside::NoMemory;
 use scr_positions::MoveTable;
-use scr_rank::PermRank;
-use scr_search::{Extent, Part, PartPosition, TurnSet, Word};
-use scr_stages::{
-    DOMINO_TURNS, MIDDLE_EDGES, OUTER_EDGES, block_edges_turned, block_number, corners_turned,
-};
+use scr_search::{Extent, Part, TurnSet, Word};
+use scr_stages::{DOMINO_TURNS, MIDDLE_EDGES, OUTER_EDGES, block_edges_turned, corners_turned};
 use scr_table::TableName;
 use std::alloc::Global;
 
@@ -101,37 +90,4 @@ fn edge_moves<const N: usize>(alloc: Global, block: &[u8; N]) -> Result<MoveTabl
         alloc,
         &Lists::<N>::new(&block_edges_turned(block, &DOMINO_TURNS)[..]),
     )
-}
-
-/// The position of the domino to which some turns lead from a cube.
-pub(crate) fn position_behind(cube: &Cube, turns: &[u8]) -> PartPosition
-    requires turns { All (λ t. t < 18) turns.now }
-    requires domino { (c : CubeState) × (play after_turn cube.now turns.now ≡ Some c) × IsDominoCube c }
-    ensures { (c : CubeState) → play after_turn cube.now turns.now ≡ Some c → Shows second_views c result }
-{
-    let corners = carried(cube.corners(), corner_turns(), turns);
-    let edges = carried(cube.edges(), edge_turns(), turns);
-    PartPosition {
-        one: PermRank::<8>::rank(&corners) as u32,
-        other: block_number(&OUTER_EDGES, &edges),
-        middle: block_number(&MIDDLE_EDGES, &edges),
-    }
-}
-
-/// Which piece stands at each place after some turns, by their numbers.
-fn carried<const N: usize>(pieces: [u8; N], turns: &[PlaceTurn<N>], word: &[u8]) -> [u8; N]
-    requires turns { All (λ t. IsPermutation N t.places) turns.now }
-    requires word { All (λ t. t < length turns.now) word.now }
-    ensures { result ≡ carried (map (λ t. t.places) turns.now) pieces.entry word.now }
-{
-    let mut at = pieces;
-    for turn in word {
-        let before = at;
-        pick_into(
-            &before[..],
-            &turns[usize::from(*turn)].places[..],
-            &mut at[..],
-        );
-    }
-    at
 }

@@ -87,6 +87,7 @@ fn run_lanes<R: Threads + Sync, J: Jobs + Sync, G: Gate + Sync>(
     let slots = out.len() as u32;
     run_workers(rt, table, lanes, jobs, slots, gate);
     let mut seat = join_seats(table, lanes);
+    // The seat has the whole weight: the load tells that it claimed each number below the word exactly once.
     table.table.shared.load::<Look>(&mut seat, 0);
     laws::gather(jobs, lanes, out);
     lanes[0].seat = Some(seat);

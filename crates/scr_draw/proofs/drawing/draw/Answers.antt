@@ -34,14 +34,14 @@ returns-then-needs_at_least-clause-taken g c =
 
 pub loop-tried-preserved : goal.loop-tried-preserved
 loop-tried-preserved g c =
-    elim c.match-attempt_within.branch [
+    elim c.match-attempt.branch [
       | in-Some+else-needs_at_least w ↦
           tried_failed c.loop-tried.invariant c.loop-tried-test.true c.count-count.ensures.value w.in-Some.ensures.value
           w.state_at-state.ensures (sym w.needs_at_least.ensures ∙ w.if-needs_at_least.false)
-          c.attempt_within.ensures.same_words c.attempt_within.ensures.three
+          c.attempt.ensures.same_words c.attempt.ensures.three
       | in_default w ↦
           tried_refused c.loop-tried.invariant c.loop-tried-test.true c.count-count.ensures.value w.in_default.ensures.value
-          c.attempt_within.ensures.same_words c.attempt_within.ensures.three
+          c.attempt.ensures.same_words c.attempt.ensures.three
     ]
 
 pub returns-clause-state : goal.returns-clause-state

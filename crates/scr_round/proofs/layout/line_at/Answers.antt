@@ -29,25 +29,25 @@ in_its_group index round line own later inside own_is =
 
 pub group_name-requires : goal.group_name-requires
 group_name-requires c =
-    let own = c.from-own.ensures ∙ c.per_group.ensures.value ∙ ap (λ (r : Round). per_group_of r.event) c.round.view_is in
+    let own = c.from-own.ensures ∙ c.row.ensures.per_group ∙ ap (λ (r : Round). per_group_of r.event) c.round.view_is in
     let below = in_group c.args.index c.args.round.now c.args.line c.if-line-eq0.false c.requires.line in
     rw own (omega (arith, below, c.requires.round.few_groups))
 
 pub returns-then-place-eq0-clause-value : goal.returns-then-place-eq0-clause-value
 returns-then-place-eq0-clause-value c =
-    let own = c.from-own.ensures ∙ c.per_group.ensures.value ∙ ap (λ (r : Round). per_group_of r.event) c.round.view_is in
+    let own = c.from-own.ensures ∙ c.row.ensures.per_group ∙ ap (λ (r : Round). per_group_of r.event) c.round.view_is in
     in_its_group c.args.index c.args.round.now c.args.line c.from-own.result c.if-line-eq0.false c.requires.line own
     ∙ rw (c.if-place-eq0.true, c.group_name.ensures) refl
 
 pub returns-then-place-own-clause-value : goal.returns-then-place-own-clause-value
 returns-then-place-own-clause-value c =
-    let own = c.from-own.ensures ∙ c.per_group.ensures.value ∙ ap (λ (r : Round). per_group_of r.event) c.round.view_is in
+    let own = c.from-own.ensures ∙ c.row.ensures.per_group ∙ ap (λ (r : Round). per_group_of r.event) c.round.view_is in
     in_its_group c.args.index c.args.round.now c.args.line c.from-own.result c.if-line-eq0.false c.requires.line own
     ∙ rw (c.if-place-own.true, c.new.ensures) (group_lines-last c.from-own.result _ _)
 
 pub returns-clause-value : goal.returns-clause-value
 returns-clause-value c =
-    let own = c.from-own.ensures ∙ c.per_group.ensures.value ∙ ap (λ (r : Round). per_group_of r.event) c.round.view_is in
+    let own = c.from-own.ensures ∙ c.row.ensures.per_group ∙ ap (λ (r : Round). per_group_of r.event) c.round.view_is in
     let size = c.from-own.result in
     let group = (c.args.line - 1) / (size + 4) in
     let place = (c.args.line - 1) % (size + 4) in
@@ -67,7 +67,7 @@ below_slots own groups group place below within scramble =
 
 pub returns-clause-slot : goal.returns-clause-slot
 returns-clause-slot c =
-    let own = c.from-own.ensures ∙ c.per_group.ensures.value ∙ ap (λ (r : Round). per_group_of r.event) c.round.view_is in
+    let own = c.from-own.ensures ∙ c.row.ensures.per_group ∙ ap (λ (r : Round). per_group_of r.event) c.round.view_is in
     let size = per_group_of c.args.round.now.event in
     rw own (below_slots size c.args.round.now.groups ((c.args.line - 1) / (size + 4)) ((c.args.line - 1) % (size + 4))
     (in_group c.args.index c.args.round.now c.args.line c.if-line-eq0.false c.requires.line)

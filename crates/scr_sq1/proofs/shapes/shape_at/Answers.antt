@@ -1,28 +1,37 @@
-use Rattle.std.proofs.Common.{arith}
-use Rattle.scr_sq1.proofs.ShapeSteps.{made_start, made_at, made_next, counted_corners}
+use Rattle.std.proofs.Common.{◌-◌, arith}
+use Rattle.scr_sq1.proofs.ShapeSteps.{made_start, falling_start, falling_next, falling_few, falling_found, ways_table, corners_table-at}
 use Rattle.scr_sq1.proofs.shapes.shape_at.Goals as goal
 
 pub loop-place-init : goal.loop-place-init
 loop-place-init c = made_start c.args.number c.requires
 
-pub bounds-from : goal.bounds-from
-bounds-from c =
-    let l = c.loop-place in
-    let first = c.first_half-half in
-    let step = made_at l.place l.corners l.rest first.result.0 first.result.1 c.args.number l.halves c.loop-place-test.true l.invariant first.ensures.half first.ensures.rest in
-    omega (arith, step.below, c.from.ensures)
+pub loop-half-init : goal.loop-half-init
+loop-half-init c =
+    let p = c.loop-place in
+    falling_start p.place p.corners p.rest c.args.number p.halves c.loop-place-test.true p.invariant
 
-pub overflow_sub-corners : goal.overflow_sub-corners
-overflow_sub-corners c =
-    let l = c.loop-place in
-    let first = c.first_half-half in
-    let step = made_at l.place l.corners l.rest first.result.0 first.result.1 c.args.number l.halves c.loop-place-test.true l.invariant first.ensures.half first.ensures.rest in
-    omega (arith, step.few, counted_corners first.result.0 c.from.result c.from.ensures)
+pub loop-half-preserved : goal.loop-half-preserved
+loop-half-preserved c =
+    let p = c.loop-place in
+    let l = c.loop-half in
+    falling_next p.place (3 - p.place) p.corners l.half l.rest c.args.number p.halves l.invariant _
+    (ways_table (3 - p.place) p.corners l.half (omega arith) l.invariant.few l.invariant.low) c.loop-half-test.true
+
+pub overflow_sub-corners-in-loop-place : goal.overflow_sub-corners-in-loop-place
+overflow_sub-corners-in-loop-place c =
+    let p = c.loop-place in
+    let l = c.loop-half in
+    omega (
+      arith,
+      corners_table-at l.half,
+      falling_few p.place (3 - p.place) p.corners l.half l.rest c.args.number p.halves l.invariant _
+          (ways_table (3 - p.place) p.corners l.half (omega arith) l.invariant.few l.invariant.low) c.loop-half-test.false,
+    )
 
 pub loop-place-preserved : goal.loop-place-preserved
 loop-place-preserved c =
-    let l = c.loop-place in
-    let first = c.first_half-half in
-    let step = made_at l.place l.corners l.rest first.result.0 first.result.1 c.args.number l.halves c.loop-place-test.true l.invariant first.ensures.half first.ensures.rest in
-    made_next l.place l.corners l.rest first.result.0 first.result.1 c.args.number _ l.halves c.loop-place-test.true
-    (counted_corners first.result.0 c.from.result c.from.ensures) step
+    let p = c.loop-place in
+    let l = c.loop-half in
+    falling_found p.place (3 - p.place) p.corners l.half l.rest c.args.number p.halves l.invariant _
+    (ways_table (3 - p.place) p.corners l.half (omega arith) l.invariant.few l.invariant.low) c.loop-half-test.false
+    c.loop-place-test.true (omega arith) _ (corners_table-at l.half)

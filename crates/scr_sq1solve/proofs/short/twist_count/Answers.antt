@@ -1,4 +1,4 @@
-use Rattle.std.proofs.Common.{◌≡◌, ℕ, ◌+◌, ◌<◌, List, [], ◌∷◌, get_or, length, map, take, refl, sym, ap, ◌∙◌, arith, cond, Bool, true, false, eqb, eq-eqb, ne_eqb}
+use Rattle.std.proofs.Common.{◌≡◌, ℕ, ◌+◌, ◌<◌, List, [], ◌∷◌, get_or, length, map, take, refl, sym, ap, ◌∙◌, arith}
 use Rattle.std.proofs.lemmas.List.{map-append, take_all, take_more}
 use Rattle.scr_combinatorics.specs.Play.{count_in}
 use Rattle.scr_combinatorics.proofs.PlayLaws.{count_in-append}

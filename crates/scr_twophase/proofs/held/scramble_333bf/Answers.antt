@@ -20,7 +20,7 @@ pub unreachable-requires : goal.unreachable-requires
 unreachable-requires c =
     let s = c.args.held.now in
     let some = before-some s c.hold.ensures.valid in
-    let word = ap (λ (w : Written). w.turns) c.word_of_hold-word.ensures ∙ ap hold_word c.hold.ensures.number in
+    let word = ap (λ (w : Written). w.turns) c.of-word.ensures ∙ c.word_of_hold.ensures.word ∙ ap hold_word c.hold.ensures.number in
     let turns = ap (λ (w : Written). w.turns) c.taken_back.ensures ∙ ap (back opposite) word in
     let none = c.in_default.ensures ∙ ap (play held_cube_after s) turns ∙ some.1 in
     cc
@@ -35,7 +35,7 @@ with_event-scramble-requires c = λ t h.
 pub push_all-requires-clause-room : goal.push_all-requires-clause-room
 push_all-requires-clause-room c =
     let s = c.args.held.now in
-    let word = ap (λ (w : Written). w.turns) c.word_of_hold-word.ensures ∙ ap hold_word c.hold.ensures.number in
+    let word = ap (λ (w : Written). w.turns) c.of-word.ensures ∙ c.word_of_hold.ensures.word ∙ ap hold_word c.hold.ensures.number in
     let short = IsHoldWord-each (hold_of s.centres) (hold_of-lt s.centres c.hold.ensures.valid.centres) in
     omega (
       arith,
@@ -50,14 +50,14 @@ push_all-requires-clause-room c =
 before : (c : goal.After-push_all) → IsBefore c.args.held.now c.in-Some.before
 before c =
     let s = c.args.held.now in
-    let word = ap (λ (w : Written). w.turns) c.word_of_hold-word.ensures ∙ ap hold_word c.hold.ensures.number in
+    let word = ap (λ (w : Written). w.turns) c.of-word.ensures ∙ c.word_of_hold.ensures.word ∙ ap hold_word c.hold.ensures.number in
     let turns = ap (λ (w : Written). w.turns) c.taken_back.ensures ∙ ap (back opposite) word in
     IsBefore-played s c.in-Some.before c.hold.ensures.valid (ap (play held_cube_after s) (sym turns) ∙ sym c.play.ensures ∙ c.in-Some.is)
 
 joined : (c : goal.After-push_all)
     → c.push_all.new.scramble.turns ≡ c.scramble_333-first.result.turns ++ hold_word (hold_of c.args.held.now.centres)
 joined c =
-    let word = ap (λ (w : Written). w.turns) (c.scramble.ensures ∙ c.word_of_hold-word.ensures) ∙ ap hold_word c.hold.ensures.number in
+    let word = ap (λ (w : Written). w.turns) (c.scramble.ensures ∙ c.of-word.ensures) ∙ c.word_of_hold.ensures.word ∙ ap hold_word c.hold.ensures.number in
     ap (λ (s : Written). s.turns) c.push_all.ensures
     ∙ ap (λ (s : Written). s.turns ++ c.scramble.result.turns) c.with_event-scramble.ensures
     ∙ ap (λ w. c.scramble_333-first.result.turns ++ w) word

@@ -13,7 +13,7 @@ rank-requires c =
     let digits : c.from.result ∷ c.number_of-cube.result ∷ [] ≡ held_digits c.args.state.now =
     ap (λ n. n ∷ c.number_of-cube.result ∷ []) hold ∙ ap (λ n. hold_of c.args.state.now.centres ∷ n ∷ []) cube in
     let below = subst (AreDigits held_bases) (sym digits) (has_two c.args.state.now c.requires).below in
-    (lit< tt, (lit< tt, subst (λ bases. AreDigits bases (c.from.result ∷ c.number_of-cube.result ∷ [])) (sym c.held_radix.ensures) below))
+    (lit< tt, (lit< tt, subst (λ bases. AreDigits bases (c.from.result ∷ c.number_of-cube.result ∷ [])) (sym c.new.ensures) below))
 
 pub returns : goal.returns
 unfolding held_digits
@@ -23,5 +23,5 @@ returns c =
     let digits : c.from.result ∷ c.number_of-cube.result ∷ [] ≡ held_digits c.args.state.now =
     ap (λ n. n ∷ c.number_of-cube.result ∷ []) hold ∙ ap (λ n. hold_of c.args.state.now.centres ∷ n ∷ []) cube in
     c.rank.ensures.number
-    ∙ ap (λ bases. mixed_number bases (c.from.result ∷ c.number_of-cube.result ∷ [])) c.held_radix.ensures
+    ∙ ap (λ bases. mixed_number bases (c.from.result ∷ c.number_of-cube.result ∷ [])) c.new.ensures
     ∙ ap (mixed_number held_bases) digits

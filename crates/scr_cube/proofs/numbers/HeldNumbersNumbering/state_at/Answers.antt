@@ -10,13 +10,13 @@ use Rattle.scr_cube.proofs.numbers.HeldNumbersNumbering.state_at.Goals as goal
 pub returns : goal.returns
 unfolding held_of_digits
 returns c =
-    let digits = c.unrank.ensures.list ∙ ap (λ bases. mixed_digits bases c.args.number) c.held_radix.ensures in
+    let digits = c.unrank.ensures.list ∙ ap (λ bases. mixed_digits bases c.args.number) c.new.ensures in
     same_held _ (held_numbered.state_at c.args.number) (c.state_at.ensures ∙ ap (λ ds. cube_numbered.state_at (get_or ds 1 0)) digits)
     (sym (hold_centres-are (get_or c.unrank.result 0 0) (omega (arith, ap (λ ds. get_or ds 0 0) digits))) ∙ ap (λ ds. hold_centres (get_or ds 0 0)) digits)
 
 pub invariant_of-result : goal.invariant_of-result
 invariant_of-result c =
-    let digits = c.unrank.ensures.list ∙ ap (λ bases. mixed_digits bases c.args.number) c.held_radix.ensures in
+    let digits = c.unrank.ensures.list ∙ ap (λ bases. mixed_digits bases c.args.number) c.new.ensures in
     let hold = get_or c.unrank.result 0 0 in
     let below : hold < 24 = omega (arith, ap (λ ds. get_or ds 0 0) digits) in
     subst (Contains holds) (hold_centres-are hold below) (Contains-hold hold below)

@@ -16,7 +16,7 @@ use Rattle.scr_notation.proofs.numbered_word.NumberedWord.tidied.Goals as goal
 pub loop-place-init : goal.loop-place-init
 unfolding tidy
 loop-place-init c =
-    let kind = c.kind-kind.result in
+    let kind = c.row-kind.result.kind in
     let numbers = c.self.inside.numbers.items in
     let none : drop c.len-place.result numbers ≡ [] = drop_all c.len-place.result numbers (omega (arith, c.len-place.ensures.value)) in (
       ap (turns_of kind) c.new-numbers.ensures ∙ sym (ap (λ ns. tidy turn_merging (map (turn_at kind) ns)) none),
@@ -26,7 +26,7 @@ loop-place-init c =
 
 pub loop-place-preserved : goal.loop-place-preserved
 loop-place-preserved c =
-    let kind = c.kind-kind.result in
+    let kind = c.row-kind.result.kind in
     let numbers = c.self.inside.numbers.items in
     let place = c.loop-place.place in
     let before = c.loop-place.numbers.items in
@@ -41,7 +41,7 @@ loop-place-preserved c =
 pub returns-clause-valid : goal.returns-clause-valid
 returns-clause-valid c =
     let event = c.self.inside.event in
-    let kind : IsKind (kind_of event) = subst IsKind c.kind-kind.ensures.value c.kind-kind.ensures.depths in
+    let kind : IsKind (kind_of event) = subst IsKind c.row-kind.ensures.kind c.row-kind.ensures.depths in
     let few : length c.reverse.new.self ≤ 160 = omega (arith, c.reverse.ensures.len, c.as_mut_slice.ensures.fits) in
     let below : All (λ n. n < turn_count (kind_of event)) c.reverse.new.self = search rules in
     let same : length c.reverse.new.self ≡ length c.loop-place.numbers.items = omega (arith, c.reverse.ensures.len, ap length c.as_mut_slice.ensures.value) in

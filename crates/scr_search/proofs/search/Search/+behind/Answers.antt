@@ -53,7 +53,7 @@ loop-place-init g t c =
     let keeps = turns.kept c.args.self.now.cube.now c.requires.at in
     record {
       same = refl;
-      words = IsLeft-all (words_kept g.P.Part.views c.args.self.now.cube.now c.args.word.now c.args.left c.turns_behind-turns.result.bits (omega (arith, c.if-left-eq0.false)) turns.few keeps);
+      words = IsLeft-all (words_kept g.P.Part.views c.args.self.now.cube.now c.args.word.now.items c.args.left c.turns_behind-turns.result.bits (omega (arith, c.if-left-eq0.false)) turns.few keeps);
       follow = keeps.follow;
       last = turns.last;
       few = turns.few;
@@ -63,23 +63,20 @@ pub after-next-requires-clause-place : goal.after-next-requires-clause-place
 after-next-requires-clause-place g t c = (c.loop-place.invariant.follow c.in-Some.place c.in-Some.ensures.taken).below
 
 pub push-requires : goal.push-requires
-push-requires g t c = record {
-  turn = omega (arith, c.extent-in-Some.ensures.views.numbers c.in-Some.place (c.loop-place.invariant.follow c.in-Some.place c.in-Some.ensures.taken).below);
-  room = omega (arith, ap length c.loop-place.invariant.same, c.requires.few, g.met.P.Part.short, c.if-left-eq0.false);
-}
+push-requires g t c = omega (arith, ap length c.loop-place.invariant.same, c.requires.few, g.met.P.Part.short, c.if-left-eq0.false)
 
 -- the word with the turn
-pushed : (g : Over) (t : ℕ) (c : After-push g t) → c.push.new.self ≡ c.args.word.now ++ get_or g.P.Part.views.turns c.in-Some.place 0 ∷ []
+pushed : (g : Over) (t : ℕ) (c : After-push g t) → c.push.new.self.items ≡ c.args.word.now.items ++ get_or g.P.Part.views.turns c.in-Some.place 0 ∷ []
 pushed g t c =
     let is = c.extent-in-Some.ensures.views.numbers c.in-Some.place (c.loop-place.invariant.follow c.in-Some.place c.in-Some.ensures.taken).below in
-    pushed_word c.push.new.self c.loop-place.word c.args.word.now (get_or c.extent-in-Some.result.now.numbers c.in-Some.place 0)
-    (get_or g.P.Part.views.turns c.in-Some.place 0) c.push.ensures c.loop-place.invariant.same is.0
+    pushed_word c.push.new.self.items c.loop-place.word.items c.args.word.now.items (get_or c.extent-in-Some.result.now.numbers c.in-Some.place 0)
+    (get_or g.P.Part.views.turns c.in-Some.place 0) c.push.ensures.items c.loop-place.invariant.same is.0
 
 pub behind-requires : goal.behind-requires
 behind-requires g t c = λ κs lives.
     let v = g.P.Part.views in
     let cube = c.args.self.now.cube.now in
-    let word = c.args.word.now in
+    let word = c.args.word.now.items in
     let place = c.in-Some.place in
     let turn : ℕ = get_or v.turns place 0 in
     let may = c.loop-place.invariant.follow place c.in-Some.ensures.taken in
@@ -121,7 +118,7 @@ loop-place-preserved g t c =
     let among = λ (place : ℕ) (is : contains_turn c.pop.new.self.bits place ≡ true).
     (and_parts (contains_turn c.loop-place.turns.bits place) (not (place == c.in-Some.place)) (sym (c.in-Some.ensures.others place) ∙ is)).0 in
     record {
-      same = popped_word c.pop-in-Some.new.self c.behind.new.word c.args.word.now (get_or v.turns c.in-Some.place 0) c.pop-in-Some.ensures
+      same = popped_word c.pop-in-Some.new.self.items c.behind.new.word.items c.args.word.now.items (get_or v.turns c.in-Some.place 0) c.pop-in-Some.ensures.rest
           (c.if-behind.ensures.same refl ∙ by);
       words = IsLeft-passed c.in-Some.ensures.first (ap (λ w. words_behind v.turns (is_whole v c.args.self.now.cube.now) w (c.args.left - 1)) by)
           c.loop-place.invariant.words c.if-behind.ensures;

@@ -9,8 +9,8 @@ use Rattle.scr_search.proofs.search.Search.within.Given as goal
 abbrev pub invariant-loop-left : goal.invariant-loop-left
 invariant-loop-left g l =
     let p = g.P.Part in
-    let word = l.initial.word in
+    let word = l.initial.word.items in
     let end = p.extent.most + 1 in
-    (l.word ≡ word)
+    (l.word.items ≡ word)
     × IsLeft (p.gives l.self.cube.now) (words_from p.views l.self.cube.now word p.extent.most) l.initial.tries (words_behind p.views.turns (is_whole p.views l.self.cube.now) word)
     (numbers_from l.left (end - l.left)) l.tries

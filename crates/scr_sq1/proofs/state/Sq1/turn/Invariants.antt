@@ -1,0 +1,9 @@
+use Rattle.std.proofs.Common.{◌≡◌, ℕ, ◌<◌, length, slice_index}
+use Rattle.scr_sq1.specs.Units.{place_before}
+use Rattle.scr_sq1.proofs.state.Sq1.turn.Given as goal
+
+abbrev pub invariant-loop-unit : goal.invariant-loop-unit
+invariant-loop-unit l = record {
+  size : length l.units ≡ 24;
+  filled : (k : ℕ) → k < l.unit → slice_index l.units k ≡ slice_index l.self.units (place_before l.top_places l.bottom_places k);
+}

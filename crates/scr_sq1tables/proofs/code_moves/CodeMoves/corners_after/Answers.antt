@@ -1,7 +1,0 @@
-use Rattle.scr_sq1tables.proofs.HomeStage.{corners-led}
-use Rattle.scr_sq1tables.proofs.code_moves.CodeMoves.corners_after.Goals as goal
-
-pub target-requires-clause-led : goal.target-requires-clause-led
-target-requires-clause-led c =
-    let m = c.args.self.now in
-    corners-led m.kept m.shows_corners m.shows_rows c.requires.position c.requires.turn
