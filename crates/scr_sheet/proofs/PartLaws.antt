@@ -2,6 +2,7 @@
 use Rattle.std.proofs.Math.Seq.{take-append_seam}
 use Rattle.std.proofs.lemmas.List.{length-map, map-append, take-append-drop, length-take-le}
 use Rattle.std.proofs.Common.{◌≡◌, ℕ, suc, ◌+◌, ◌<◌, List, [], ◌∷◌, ◌++◌, length, map, take, drop, get_or, Ok, Err, refl, sym, ap, subst, ◌∙◌, append_assoc, append-nil, length-append, drop-cons, add-one, arith, rules}
+use Rattle.std.specs.Option.{option_flatten}
 use Rattle.std.specs.Prelude.{Option, Some, None, IsSomeAnd, Result, MatchResult, slice_index_or}
 use Rattle.scr_notation.specs.Written.{Written}
 use Rattle.scr_outside.specs.Change.{Change, Gains, Falters}
@@ -17,7 +18,7 @@ use Rattle.scr_fault.specs.declared.fault.Fault.TheVariants as fault
 use Rattle.scr_round.specs.Round.{round_text}
 use Rattle.scr_round.specs.Made.{turns_of_each}
 use Rattle.scr_workers.specs.Answered.{AreAnswered}
-use Rattle.scr_sheet.specs.Making.{answer_at, AreAnswers, IsFirstNone}
+use Rattle.scr_sheet.specs.Making.{AreAnswers, IsFirstNone}
 use Rattle.scr_sheet.specs.Sheet.{IsFirstWithout, Part, round_part, round_parts, EachSlot, AreScrambles, IsPartText, IsText}
 use Rattle.scr_sheet.specs.Outcome.{IsUnwritten, IsLed, IsStopped, EndsParts}
 
@@ -45,7 +46,7 @@ EachSlot-map Is So f so stream (x ∷ xs) each = (so stream x each.0, EachSlot-m
 
 -- answers that stand at their places
 EachSlot-answered : (Is : ℕ → Option Written → Type 0) (stream : ℕ) (answers : List (Option (Option Written)))
-    → AreAnswered (λ slot. Is (stream + slot)) answers → EachSlot Is stream (map answer_at answers)
+    → AreAnswered (λ slot. Is (stream + slot)) answers → EachSlot Is stream (map option_flatten answers)
 EachSlot-answered Is stream [] each = tt
 EachSlot-answered Is stream (None ∷ answers) each = absurd (each 0 (omega arith))
 EachSlot-answered Is stream (Some answer ∷ answers) each =
@@ -60,27 +61,27 @@ EachSlot-answered Is stream (Some answer ∷ answers) each =
 pub AreAnswers-placed : (settings : Settings) (part : Part) (n : ℕ) (answers behind : List (Option (Option Written)))
     → length answers ≡ n → n ≡ part.slots
     → AreAnswered (λ slot. IsSlotAnswer (scrambling_of part.event) settings part.least (part.first_stream + slot)) answers
-    → AreAnswers settings part (map answer_at (take n (answers ++ behind)))
+    → AreAnswers settings part (map option_flatten (take n (answers ++ behind)))
 AreAnswers-placed settings part n answers behind as_many slots each =
     grind (arith, take-append_seam, length-map, EachSlot-answered)
 
 -- the first of answers that is none, where those before it are some
 pub IsFirstNone-here : (answers : List (Option (Option Written))) (before : List Written) (k : ℕ) (d : Option (Option Written))
-    → k < length answers → map Some before ≡ map answer_at (take k answers) → answer_at (get_or answers k d) ≡ None
-    → IsFirstNone (map answer_at answers) k
+    → k < length answers → map Some before ≡ map option_flatten (take k answers) → option_flatten (get_or answers k d) ≡ None
+    → IsFirstNone (map option_flatten answers) k
 IsFirstNone-here answers before k d there led none =
     let here : drop k answers ≡ get_or answers k d ∷ drop (k + 1) answers = rw add-one (drop-cons answers k d there) in
     let parts : answers ≡ take k answers ++ drop k answers = sym (take-append-drop k answers) in
     let some = length-map before (λ (w : Written). Some w) in
-    let mapped = length-map (take k answers) answer_at in
+    let mapped = length-map (take k answers) option_flatten in
     let size = length-take-le k answers (omega (arith, there)) in
-    let same : length (map Some before) ≡ length (map answer_at (take k answers)) = ap length led in record {
+    let same : length (map Some before) ≡ length (map option_flatten (take k answers)) = ap length led in record {
       before = before;
-      behind = map answer_at (drop (k + 1) answers);
-      are = ap (map answer_at) parts ∙ map-append answer_at (take k answers) (drop k answers)
-          ∙ ap (λ xs. xs ++ map answer_at (drop k answers)) (sym led)
-          ∙ ap (λ xs. map Some before ++ map answer_at xs) here
-          ∙ ap (λ x. map Some before ++ x ∷ map answer_at (drop (k + 1) answers)) none;
+      behind = map option_flatten (drop (k + 1) answers);
+      are = ap (map option_flatten) parts ∙ map-append option_flatten (take k answers) (drop k answers)
+          ∙ ap (λ xs. xs ++ map option_flatten (drop k answers)) (sym led)
+          ∙ ap (λ xs. map Some before ++ map option_flatten xs) here
+          ∙ ap (λ x. map Some before ++ x ∷ map option_flatten (drop (k + 1) answers)) none;
       as_many = omega (arith, some, mapped, size, same);
     }
 

@@ -27,11 +27,6 @@ pub record CanBeMade (tables : List Bool) (settings : Settings) (k : ℕ) (round
   pub round_in_range : IsInRange round
   pub in_range : AreInRange settings
 
--- what stands at a place for an answer: where nothing does, there is no scramble
-abbrev pub answer_at : Option (Option Written) → Option Written
-answer_at None = None
-answer_at (Some answer) = answer
-
 -- the answers of a part, one for each slot in order
 pub record AreAnswers (settings : Settings) (part : Part) (answers : List (Option Written)) : Type 0 where
   pub each_slot : length answers ≡ part.slots

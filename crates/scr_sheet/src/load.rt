@@ -21,7 +21,6 @@ ghost use Rattle.scr_sheet.specs.Sizes.{EndsSized, IsSizeOf, SizesParts};
 ghost use Rattle.scr_table.specs.declared.fault.BuildFault.TheVariants as build;
 
 use crate::making::Making;
-use crate::parts::make_in_room;
 use crate::ready::Ready;
 use crate::room::Room;
 use arrayvec::{ArrayString, ArrayVec};
@@ -136,7 +135,7 @@ fn rounds_size<R: Threads + Sync, G: Gate + Sync>(
     let mut size = Size { bytes: 0, sum: 0 };
     for (index, round) in rounds.iter().enumerate() {
         let index = index as u32;
-        make_in_room(making, room, index, round)?;
+        making.round(room, index, round)?;
         let more = round_size(index, round, &room.scrambles);
         size.bytes += more.bytes;
         size.sum += more.sum;

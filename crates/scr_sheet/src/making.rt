@@ -1,18 +1,21 @@
 //! The scrambles of rounds, drawn slot by slot, by workers.
 
-ghost use Rattle.std.specs.Prelude.{◌≡◌, ℕ, ◌+◌, ◌≤◌, length, map, Some, All, MatchResult};
+ghost use Rattle.std.specs.Prelude.{◌≡◌, ℕ, ◌+◌, ◌≤◌, [], ◌∷◌, length, map, Some, All, MatchResult};
+ghost use Rattle.std.specs.Option.{option_flatten};
 ghost use Rattle.std.specs.Vec.{vec_len, vec_capacity};
 ghost use Rattle.scr_workers.specs.Boards.{HasRoom};
 ghost use Rattle.scr_round.specs.Round.{slots_of};
 ghost use Rattle.scr_slots.specs.Events.{scrambling_of};
 ghost use Rattle.scr_slots.specs.Slots.{IsDrawnFairly};
 ghost use Rattle.scr_sheet.specs.declared.making.RoundFault.TheVariants as fault;
-ghost use Rattle.scr_sheet.specs.Making.{answer_at, CanBeMade, IsRoundMade, IsPartFault, IsFirstNone};
+ghost use Rattle.scr_sheet.specs.Making.{CanBeMade, IsRoundMade, IsPartFault, IsFirstNone};
+ghost use Rattle.scr_sheet.specs.Outcome.{IsStopped};
 ghost use Rattle.scr_sheet.specs.Room.{IsRoom, SpendsOne};
 ghost use Rattle.scr_sheet.specs.Sheet.{settings_of, round_part, AreScrambles, IsFirstWithout};
 
 use crate::room::Room;
 use crate::slot_jobs::SlotJobs;
+use scr_check::Missing;
 use scr_command::Options;
 use scr_list::Round;
 use scr_notation::Scramble;
@@ -74,9 +77,9 @@ pub fn make_round<R: Threads + Sync, G: Gate + Sync>(
             let Room { scrambles, .. } = room;
             Ok(RoundResult::new(round.copied(), index, scrambles))
         }
-        Err(slot) => Err(RoundFault::Limit {
-            slot,
-            words: 3 * options.attempts,
+        Err(missing) => Err(RoundFault::Limit {
+            slot: missing.slot - 1,
+            words: missing.words,
         }),
     }
 }
@@ -137,26 +140,34 @@ impl<'a, R: Threads + Sync, G: Gate + Sync> Making<'a, R, G> {
 
     /// Makes round `index` of a list in a room, which has its scrambles afterwards; or gives the first slot without
     /// one. The slots are answered in as many lanes as the room has, where there are as many slots.
-    pub fn round(&self, room: &mut Room, index: u32, round: &Round) -> Result<(), u32>
+    pub fn round(&self, room: &mut Room, index: u32, round: &Round) -> Result<(), Missing>
         requires can { CanBeMade self.now.tables.now self.now.settings index round.now }
         requires room { IsRoom 1 room.old }
         requires slots { slots_of round.now ≤ vec_len room.old.answers }
         ensures made { let part = round_part index round.now in
             MatchResult result (λ _. AreScrambles self.now.settings part part.slots room.new.scrambles.items)
-            (IsFirstWithout self.now.settings part) }
+            (λ missing. IsStopped self.now.settings missing index (part ∷ [])) }
         ensures room { SpendsOne room.old room.new }
     {
         let jobs = SlotJobs::new(self.tables, &self.settings, index, round);
-        match room.words.pop() {
-            Some(word) => self.answer_slots(
-                word,
-                room.lanes.as_mut_slice(),
-                &jobs,
-                room.answers.as_mut_slice(),
-                slots(round) as usize,
-                &mut room.scrambles,
-            ),
-            None => unreachable!(),
+        let Some(word) = room.words.pop() else {
+            unreachable!()
+        };
+        let answered = self.answer_slots(
+            word,
+            room.lanes.as_mut_slice(),
+            &jobs,
+            room.answers.as_mut_slice(),
+            slots(round) as usize,
+            &mut room.scrambles,
+        );
+        match answered {
+            Ok(()) => Ok(()),
+            Err(slot) => Err(Missing {
+                round: index + 1,
+                slot: slot + 1,
+                words: 3 * self.settings.attempts,
+            }),
         }
     }
 
@@ -204,26 +215,16 @@ fn take_scrambles(
 ) -> Result<(), u32>
     requires few { length answers.old ≤ 182 }
     requires room { length answers.old ≤ vec_capacity scrambles.old }
-    ensures taken { let all_answers = map answer_at answers.old in
+    ensures taken { let all_answers = map option_flatten answers.old in
         MatchResult result (λ _. map Some scrambles.new.items ≡ all_answers) (IsFirstNone all_answers) }
     ensures room { vec_capacity scrambles.new ≡ vec_capacity scrambles.old }
 {
     scrambles.clear();
     for k in 0..answers.len() {
-        match answer_at(answers[k].take()) {
+        match answers[k].take().flatten() {
             Some(scramble) => scrambles.push_reserved(scramble),
             None => return Err(k as u32),
         }
     }
     Ok(())
-}
-
-/// What stands at a place for an answer; where nothing does, there is no scramble.
-fn answer_at(place: Option<Option<Scramble>>) -> Option<Scramble>
-    ensures { result ≡ answer_at place }
-{
-    match place {
-        Some(answer) => answer,
-        None => None,
-    }
 }

@@ -78,35 +78,10 @@ fn write_rounds<R: Threads + Sync, O: Sink, G: Gate + Sync>(
 {
     for (index, round) in rounds.iter().enumerate() {
         let index = index as u32;
-        make_in_room(making, room, index, round)?;
+        making.round(room, index, round)?;
         write_slots(out, index, round, &room.scrambles)?;
     }
     Ok(())
-}
-
-/// Makes a round, whose scrambles the room has then, or gives its first slot without one.
-pub(crate) fn make_in_room<R: Threads + Sync, G: Gate + Sync>(
-    making: &Making<'_, R, G>,
-    room: &mut Room,
-    index: u32,
-    round: &Round,
-) -> Result<(), Missing>
-    requires can { CanBeMade making.now.tables.now making.now.settings index round.now }
-    requires room { IsRoom 1 room.old }
-    requires slots { slots_of round.now ≤ vec_len room.old.answers }
-    ensures made { let part = round_part index round.now in
-        MatchResult result (λ _. AreScrambles making.now.settings part part.slots room.new.scrambles.items)
-        (λ missing. IsStopped making.now.settings missing index (part ∷ [])) }
-    ensures room { SpendsOne room.old room.new }
-{
-    match making.round(room, index, round) {
-        Ok(()) => Ok(()),
-        Err(slot) => Err(Missing {
-            round: index + 1,
-            slot: slot + 1,
-            words: 3 * making.settings.attempts,
-        }),
-    }
 }
 
 /// Writes how many positions the tables of an event have at each distance.

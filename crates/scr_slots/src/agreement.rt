@@ -35,7 +35,7 @@ pub fn slot_agrees(
     let settings = *settings;
     ask(
         tables,
-        event.puzzle(),
+        event.row().puzzle,
         &Agreement {
             settings,
             least,

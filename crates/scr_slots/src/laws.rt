@@ -22,7 +22,7 @@ pub fn each_drawn_fairly(tables: &Tables)
 {
     for event in EVENTS {
         if tables.has(event) {
-            ask(tables, event.puzzle(), &Fairness);
+            ask(tables, event.row().puzzle, &Fairness);
         }
     }
 }

@@ -34,7 +34,7 @@ pub fn slot_answer(
     let settings = *settings;
     ask(
         tables,
-        event.puzzle(),
+        event.row().puzzle,
         &Answer {
             settings,
             least,

@@ -5,24 +5,24 @@ use Rattle.scr_sheet.proofs.RoomLaws.{room-first, room-one, room-fits, room-next
 use Rattle.scr_sheet.proofs.SizeLaws.{sized-none, sized-more, sized-fault}
 use Rattle.scr_sheet.proofs.load.rounds_size.Goals as goal
 
-pub returns-in_err-make_in_room : goal.returns-in_err-make_in_room
-returns-in_err-make_in_room g c =
+pub returns-in_err-round : goal.returns-in_err-round
+returns-in_err-round g c =
     let p = err_from_is_err_and c.from_residual.result c.from_residual.ensures.1 in
     rw (p.1, p.2)
     (sized-fault c.args.rounds.now c.loop-index.index c.index-rounds-index.result c.index-rounds-index.is _ c.loop-index-test.true
-    c.loop-index.invariant.sized c.in_err-make_in_room.ensures.made)
+    c.loop-index.invariant.sized c.in_err-round.ensures.made)
 
 pub loop-index-preserved : goal.loop-index-preserved
 loop-index-preserved g c =
     record {
       sized =
           sized-more c.args.rounds.now c.loop-index.index c.index-rounds-index.result c.index-rounds-index.is c.loop-index-test.true
-          c.loop-index.invariant.sized (record { text = _; is = IsPartText-made {settings = c.args.making.now.settings} c.loop-index.index c.index-rounds-index.result (rw c.deref.ensures.value c.in_ok-make_in_room.ensures.made); amounts = c.round_size-more.ensures.size });
+          c.loop-index.invariant.sized (record { text = _; is = IsPartText-made {settings = c.args.making.now.settings} c.loop-index.index c.index-rounds-index.result (rw c.deref.ensures.value c.in_ok-round.ensures.made); amounts = c.round_size-more.ensures.size });
       few = omega (arith, c.loop-index.invariant.few, c.round_size-more.ensures.few);
       low = omega (arith, c.loop-index.invariant.low, c.round_size-more.ensures.low);
       room =
-          room-next c.args.rounds.now c.loop-index.index c.loop-index.room c.make_in_room.new.room c.loop-index.invariant.room
-          c.loop-index-test.true c.in_ok-make_in_room.ensures.room;
+          room-next c.args.rounds.now c.loop-index.index c.loop-index.room c.round.new.room c.loop-index.invariant.room
+          c.loop-index-test.true c.in_ok-round.ensures.room;
     }
 
 pub loop-index-init : goal.loop-index-init
@@ -33,11 +33,11 @@ loop-index-init g c = record {
   room = room-first c.args.rounds.now c.args.room.now c.requires.room;
 }
 
-pub make_in_room-requires-clause-room : goal.make_in_room-requires-clause-room
-make_in_room-requires-clause-room g c κs within =
+pub round-requires-clause-room : goal.round-requires-clause-room
+round-requires-clause-room g c κs within =
     room-one c.args.rounds.now c.loop-index.index c.loop-index.room c.loop-index.invariant.room c.loop-index-test.true
 
-pub make_in_room-requires-clause-slots : goal.make_in_room-requires-clause-slots
-make_in_room-requires-clause-slots g c κs within =
+pub round-requires-clause-slots : goal.round-requires-clause-slots
+round-requires-clause-slots g c κs within =
     room-fits c.args.rounds.now c.loop-index.index c.loop-index.room c.index-rounds-index.result c.loop-index.invariant.room c.loop-index-test.true
     c.index-rounds-index.is

@@ -11,7 +11,7 @@ use Rattle.scr_slots.proofs.laws.each_drawn_fairly.Goals as goal
 pub loop-event-preserved : goal.loop-event-preserved
 loop-event-preserved c =
     All-more (IsFairIn c.args.tables.now) events c.loop-event.event-index C222 c.loop-event-test.true c.loop-event.invariant
-    (elim c.if-has.branch [ then-has w ↦ λ _. rw w.puzzle.ensures at w.ask.ensures | else-has w ↦ λ has. absurd (search rules) ])
+    (elim c.if-has.branch [ then-has w ↦ λ _. rw w.row.ensures.puzzle at w.ask.ensures | else-has w ↦ λ has. absurd (search rules) ])
 
 pub returns : goal.returns
 returns c = λ event least has.
