@@ -1,5 +1,5 @@
 -- Counts, sums and rearranged lists.
-use Rattle.std.proofs.Common.{◌≡◌, ℕ, zero, suc, ◌+◌, ◌<◌, ◌≤◌, inl, inr, Bool, true, false, cond, eqb, ltb, List, [], ◌∷◌, map, length, refl, sym, ap, ◌∙◌, slice_index, arith}
+use Rattle.std.proofs.Common.{◌≡◌, ℕ, zero, suc, ◌+◌, ◌<◌, ◌≤◌, Bool, true, false, cond, eqb, ltb, List, [], ◌∷◌, map, length, refl, sym, ap, ◌∙◌, slice_index, arith}
 use Rattle.std.proofs.lemmas.Bool.Decides.{nat_tests}
 use Rattle.std.proofs.lemmas.Bool.{cases_eq, eq-eqb, ne_eqb, cases_lt, cond-true, cond-false}
 use Rattle.std.proofs.lemmas.List.Elements.{All-nil, All-cons, All-head, All-tail}
@@ -57,8 +57,7 @@ lesser_count-le_length x (y ∷ ys) = omega (arith, one_if-le_one (ltb y x), les
 -- the count below x depends only on how often each number stands in the list
 pub lesser_count-rearranged : (xs ys : List ℕ) → IsRearranged xs ys → (x : ℕ) → lesser_count x xs ≡ lesser_count x ys
 lesser_count-rearranged xs ys same zero = lesser_count-zero xs ∙ sym (lesser_count-zero ys)
-lesser_count-rearranged xs ys same (suc x) =
-    omega (arith, lesser_count-suc x xs, lesser_count-suc x ys, lesser_count-rearranged xs ys same x, same x)
+lesser_count-rearranged xs ys same (suc x) = grind (arith, lesser_count-suc, lesser_count-rearranged xs ys same x)
 
 pub lesser_count-mono : (x k : ℕ) (ys : List ℕ) → lesser_count x ys ≤ lesser_count (x + k) ys
 lesser_count-mono x zero ys = rw add-zero (omega arith)
@@ -91,26 +90,18 @@ pub occurrences-without : (x : ℕ) (ys : List ℕ) → 0 < occurrences x ys →
     → occurrences k (x ∷ without x ys) ≡ occurrences k ys
 occurrences-without x [] h k = absurd (omega arith)
 occurrences-without x (y ∷ ys) h k =
-    elim (cases_eq y x) [
-      | inl e ↦ rw (without-here x y ys e) (ap (λ z. one_if (eqb z k) + occurrences k ys) (sym e))
-      | inr e ↦ rw (without-other x y ys e) (omega (arith, occurrences-without x ys (occurs_later x y ys h e) k))
-    ]
+    grind (arith, cases_eq, without-here, without-other, occurs_later, occurrences-without x ys)
 
 pub total_by-without : (f : ℕ → ℕ) (x : ℕ) (ys : List ℕ) → 0 < occurrences x ys
     → f x + total_by f (without x ys) ≡ total_by f ys
 total_by-without f x [] h = absurd (omega arith)
 total_by-without f x (y ∷ ys) h =
-    elim (cases_eq y x) [
-      | inl e ↦ rw (without-here x y ys e) (ap (λ z. f z + total_by f ys) (sym e))
-      | inr e ↦ rw (without-other x y ys e) (omega (arith, total_by-without f x ys (occurs_later x y ys h e)))
-    ]
+    grind (arith, cases_eq, without-here, without-other, occurs_later, total_by-without f x ys)
 
 -- what is left of rearranged lists without an element that the first one begins with
 pub IsRearranged-without : (x : ℕ) (xs ys : List ℕ) → IsRearranged (x ∷ xs) ys
     → (0 < occurrences x ys) × IsRearranged xs (without x ys)
-IsRearranged-without x xs ys same =
-    let there : 0 < occurrences x ys = omega (arith, same x, occurrences-here x xs) in
-    (there, λ k. omega (arith, same k, occurrences-without x ys there k))
+IsRearranged-without x xs ys same = grind (arith, occurrences-here, occurrences-without)
 
 pub IsRearranged-empty : (y : ℕ) (ys : List ℕ) → IsRearranged [] (y ∷ ys) → ⊥
 IsRearranged-empty y ys same = omega (arith, same y, occurrences-here y ys)
@@ -138,8 +129,7 @@ occurrences-total_by v [] = refl
 occurrences-total_by v (x ∷ xs) = omega (arith, occurrences-total_by v xs)
 
 pub length-rearranged : (xs ys : List ℕ) → IsRearranged xs ys → length xs ≡ length ys
-length-rearranged xs ys same =
-    length-total_by xs ∙ total_by-rearranged (λ x. 1) xs ys same ∙ sym (length-total_by ys)
+length-rearranged xs ys same = grind (arith, length-total_by, total_by-rearranged)
 
 pub total_by-map : (f h : ℕ → ℕ) (xs : List ℕ) → total_by f (map h xs) ≡ total_by (λ x. f (h x)) xs
 total_by-map f h [] = refl
@@ -150,10 +140,7 @@ total_by-map f h (x ∷ xs) = ap (λ t. f (h x) + t) (total_by-map f h xs)
 pub All-from_lesser : (n : ℕ) (xs : List ℕ) → lesser_count n xs ≡ length xs → All (λ x. x < n) xs
 All-from_lesser n [] e = All-nil (λ x. x < n)
 All-from_lesser n (x ∷ xs) e =
-    elim (cases_lt x n) [
-      | inl lt ↦ All-cons (λ z. z < n) x xs lt (All-from_lesser n xs (omega (arith, one_if-lt x n lt)))
-      | inr ge ↦ absurd (omega (arith, one_if-ge x n ge, lesser_count-le_length n xs))
-    ]
+    grind (arith, cases_lt, All-cons, one_if-lt, one_if-ge, lesser_count-le_length, All-from_lesser n xs)
 
 pub lesser_count-all : (n : ℕ) (xs : List ℕ) → All (λ x. x < n) xs → lesser_count n xs ≡ length xs
 lesser_count-all n [] h = refl
@@ -177,7 +164,6 @@ pub occurrences-twice : (xs : List ℕ) (i j : ℕ) → i < j → j < length xs 
     → 2 ≤ occurrences (slice_index xs j) xs
 occurrences-twice [] i j lt there e = absurd (omega arith)
 occurrences-twice (x ∷ xs) i zero lt there e = absurd (omega arith)
-occurrences-twice (x ∷ xs) zero (suc j) lt there e =
-    omega (arith, ap (λ z. one_if (eqb x z)) (sym e), one_if-same x, occurrences-at xs j (omega arith))
+occurrences-twice (x ∷ xs) zero (suc j) lt there e = grind (arith, one_if-same, occurrences-at)
 occurrences-twice (x ∷ xs) (suc i) (suc j) lt there e =
     omega (arith, occurrences-twice xs i j (omega arith) (omega arith) e)

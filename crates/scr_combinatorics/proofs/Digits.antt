@@ -1,5 +1,5 @@
 -- Digits, each below a base of its own, and their numbers.
-use Rattle.std.proofs.Common.{◌≡◌, ℕ, zero, suc, ◌+◌, ◌*◌, ◌/◌, ◌%◌, ◌^◌, ◌<◌, ◌≤◌, List, [], ◌∷◌, length, replicate, take, slice_index, refl, sym, ap, ◌∙◌, subst, arith}
+use Rattle.std.proofs.Common.{rules, ◌≡◌, ℕ, zero, suc, ◌+◌, ◌*◌, ◌/◌, ◌%◌, ◌^◌, ◌<◌, ◌≤◌, List, [], ◌∷◌, length, replicate, take, slice_index, refl, sym, ap, ◌∙◌, arith}
 use Rattle.std.specs.Prelude.{All, ◌↔◌}
 use Rattle.std.proofs.lemmas.List.Elements.{All-nil, All-cons, All-head, All-tail}
 use Rattle.std.proofs.lemmas.Nat.{same_from_place, div_below, mod_below, div-add-mod', mod-mul-add, div-mul-add}
@@ -85,21 +85,13 @@ length-mixed_digits (b ∷ bs) r = ap suc (length-mixed_digits bs (r / b))
 
 pub AreDigits-mixed_digits : (bases : List ℕ) (r : ℕ) → 0 < product bases → AreDigits bases (mixed_digits bases r)
 AreDigits-mixed_digits [] r pos = tt
-AreDigits-mixed_digits (b ∷ bs) r pos =
-    let both = factor_pos b (product bs) pos in
-    (mod_below r b both.0, AreDigits-mixed_digits bs (r / b) both.1)
+AreDigits-mixed_digits (b ∷ bs) r pos = grind (arith, factor_pos, mod_below, AreDigits-mixed_digits bs)
 
 pub mixed_number-mixed_digits : (bases : List ℕ) (r : ℕ) → 0 < product bases → r < product bases
     → mixed_number bases (mixed_digits bases r) ≡ r
 mixed_number-mixed_digits [] r pos lt = omega arith
 mixed_number-mixed_digits (b ∷ bs) r pos lt =
-    let both = factor_pos b (product bs) pos in
-    omega (
-      arith,
-      ap (λ z. b * z) (mixed_number-mixed_digits bs (r / b) both.1 (div_below r b (product bs) both.0 (omega (arith, mul_comm b (product bs))))),
-      div-add-mod' r b,
-      mul_comm b (r / b),
-    )
+    grind (arith, factor_pos, div_below, mul_comm, div-add-mod', mixed_number-mixed_digits bs)
 
 pub mixed_digits-mixed_number : (bases ds : List ℕ) → 0 < product bases → AreDigits bases ds
     → mixed_digits bases (mixed_number bases ds) ≡ ds
@@ -111,47 +103,34 @@ mixed_digits-mixed_number bases ds pos h =
 -- lists of digits are numbered by the numbers below the product of the bases
 pub digits_one_to_one : (bases : List ℕ) → 0 < product bases
     → IsOneToOne (product bases) (mixed_digits bases) (mixed_number bases) (AreDigits bases)
-digits_one_to_one bases pos = record {
-  valid = λ i lt. AreDigits-mixed_digits bases i pos;
-  below = mixed_number-lt bases;
-  number_again = λ i lt. mixed_number-mixed_digits bases i pos lt;
-  state_again = λ ds h. mixed_digits-mixed_number bases ds pos h;
-}
+digits_one_to_one bases pos =
+    grind (arith, AreDigits-mixed_digits, mixed_number-lt, mixed_number-mixed_digits, mixed_digits-mixed_number)
 
 -- ---- one base
 
 pub product-replicate : (n base : ℕ) → product (replicate n base) ≡ base ^ n
 product-replicate zero base = sym (pow-zero base)
-product-replicate (suc n) base =
-    ap (λ z. base * z) (product-replicate n base) ∙ mul_comm base (base ^ n) ∙ sym (pow-suc base n)
+product-replicate (suc n) base = grind (arith, mul_comm, pow-suc, product-replicate n base)
 
 pub product_pos : (n base : ℕ) → 0 < base → 0 < product (replicate n base)
 product_pos zero base pos = omega arith
-product_pos (suc n) base pos =
-    let one : 1 ≤ base = omega arith in
-    omega (arith, product_pos n base pos, mul-le-mul_right (product (replicate n base)) one)
+product_pos (suc n) base pos = search (arith, rules, mul-le-mul_right, product_pos n base pos)
 
 -- n digits in one base are n numbers below it
 pub AreDigits-from_all : (base : ℕ) (ds : List ℕ) → All (λ d. d < base) ds → AreDigits (replicate (length ds) base) ds
 AreDigits-from_all base [] h = tt
-AreDigits-from_all base (d ∷ ds) h =
-    (All-head (λ z. z < base) d ds h, AreDigits-from_all base ds (All-tail (λ z. z < base) d ds h))
+AreDigits-from_all base (d ∷ ds) h = search (arith, rules, All-head, All-tail, AreDigits-from_all base ds)
 
 all_from_AreDigits : (n base : ℕ) (ds : List ℕ) → AreDigits (replicate n base) ds
     → (length ds ≡ n) × All (λ d. d < base) ds
 all_from_AreDigits zero base [] h = (refl, All-nil (λ z. z < base))
 all_from_AreDigits zero base (d ∷ ds) h = absurd h
 all_from_AreDigits (suc n) base [] h = absurd h
-all_from_AreDigits (suc n) base (d ∷ ds) h =
-    let rest = all_from_AreDigits n base ds h.1 in
-    (ap suc rest.0, All-cons (λ z. z < base) d ds h.0 rest.1)
+all_from_AreDigits (suc n) base (d ∷ ds) h = grind (arith, All-cons, all_from_AreDigits n base ds h.1)
 
 pub AreDigits-replicate : (n base : ℕ) (ds : List ℕ)
     → AreDigits (replicate n base) ds ↔ ((length ds ≡ n) × All (λ d. d < base) ds)
-AreDigits-replicate n base ds = (
-  all_from_AreDigits n base ds,
-  λ h. subst (λ m. AreDigits (replicate m base) ds) h.0 (AreDigits-from_all base ds h.1),
-)
+AreDigits-replicate n base ds = grind (arith, all_from_AreDigits, AreDigits-from_all)
 
 -- so are the first n of more
 pub begins_with_all : (n base : ℕ) (ds : List ℕ) → n ≤ length ds → All (λ d. d < base) ds
@@ -186,12 +165,10 @@ by_two_digits P a b holds (d ∷ (e ∷ (x ∷ xs))) h = absurd h.1.1
 pub by_three_digits : (P : List ℕ → Type 0) (a b c : ℕ) → ((d e f : ℕ) → d < a → e < b → f < c → P (d ∷ e ∷ f ∷ []))
     → (ds : List ℕ) → AreDigits (a ∷ b ∷ c ∷ []) ds → P ds
 by_three_digits P a b c holds [] h = absurd h
-by_three_digits P a b c holds (d ∷ ds) h =
-    by_two_digits (λ rest. P (d ∷ rest)) b c (λ e f le lf. holds d e f h.0 le lf) ds h.1
+by_three_digits P a b c holds (d ∷ ds) h = grind (arith, by_two_digits)
 
 pub by_four_digits : (P : List ℕ → Type 0) (a b c m : ℕ)
     → ((d e f g : ℕ) → d < a → e < b → f < c → g < m → P (d ∷ e ∷ f ∷ g ∷ [])) → (ds : List ℕ)
     → AreDigits (a ∷ b ∷ c ∷ m ∷ []) ds → P ds
 by_four_digits P a b c m holds [] h = absurd h
-by_four_digits P a b c m holds (d ∷ ds) h =
-    by_three_digits (λ rest. P (d ∷ rest)) b c m (λ e f g le lf lg. holds d e f g h.0 le lf lg) ds h.1
+by_four_digits P a b c m holds (d ∷ ds) h = grind (arith, by_three_digits)

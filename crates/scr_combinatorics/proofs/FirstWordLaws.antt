@@ -1,4 +1,5 @@
 -- Laws of distances and first words over any states and turns.
+use Rattle.std.proofs.lemmas.Grind.{common_steps}
 use Rattle.std.proofs.Common.{◌≡◌, ℕ, suc, ◌+◌, ◌<◌, ◌≤◌, List, [], ◌∷◌, length, ◌⊎◌, inl, inr, Option, Some, refl, sym, ap, ◌∙◌, subst, arith}
 use Rattle.std.proofs.Math.Logic.{∥∥₁_elim, ∥∥₁_map}
 use Rattle.std.proofs.lemmas.Bool.{cases_order, cases_lt}
@@ -20,11 +21,7 @@ module _ {S : Type 0} (after : S → ℕ → Option S) (IsGoal : S → Type 0) w
 
   -- and from no other state
   pub IsGoal-empty : (s : S) → LeadsTo after IsGoal s [] → IsGoal s
-  IsGoal-empty s l =
-      let start = play-empty after s in
-      let ended = l.played in
-      let same : l.end ≡ s = cc in
-      subst IsGoal same l.goal
+  IsGoal-empty s l = grind (arith, play-empty)
 
   -- a word leads where its rest leads from where its first turn does
   pub LeadsTo-cons : (s r : S) (t : ℕ) (w : List ℕ) → after s t ≡ Some r → LeadsTo after IsGoal r w
@@ -33,9 +30,7 @@ module _ {S : Type 0} (after : S → ℕ → Option S) (IsGoal : S → Type 0) w
 
   pub LeadsTo-parts : (s : S) (t : ℕ) (w : List ℕ) → LeadsTo after IsGoal s (t ∷ w)
       → (r : S) × (after s t ≡ Some r) × LeadsTo after IsGoal r w
-  LeadsTo-parts s t w l =
-      let parts = play-parts after s l.end t w l.played in
-      (parts.0, parts.1, record { end = l.end; played = parts.2; goal = l.goal })
+  LeadsTo-parts s t w l = grind (arith, play-parts)
 
   -- a distance is no more than another
   distance_le : (s : S) (d e : ℕ) → IsDistance after IsGoal s d → IsDistance after IsGoal s e → e < d → ⊥
@@ -43,12 +38,7 @@ module _ {S : Type 0} (after : S → ℕ → Option S) (IsGoal : S → Type 0) w
 
   -- a state has one distance
   pub IsDistance-unique : (s : S) (d e : ℕ) → IsDistance after IsGoal s d → IsDistance after IsGoal s e → d ≡ e
-  IsDistance-unique s d e a b =
-      elim (cases_order d e) [
-        | inl same ↦ same
-        | inr (inl lt) ↦ absurd (distance_le s e d b a lt)
-        | inr (inr lt) ↦ absurd (distance_le s d e a b lt)
-      ]
+  IsDistance-unique s d e a b = grind (arith, cases_order, distance_le)
 
   -- a goal is at no distance
   pub IsDistance-goal : (s : S) → IsGoal s → IsDistance after IsGoal s 0
@@ -99,10 +89,7 @@ module _ {S : Type 0} (after : S → ℕ → Option S) (IsGoal : S → Type 0) w
 
   -- a first word has the distance as its length
   pub IsDistance-first : (s : S) (w : List ℕ) → IsFirstWord after IsGoal s w → IsDistance after IsGoal s (length w)
-  IsDistance-first s w h = record {
-    reached = ∣ (w, h.leads, refl) ∣₁;
-    least = λ v l. earlier_length v w (h.first v l);
-  }
+  IsDistance-first s w h = grind (arith, common_steps, earlier_length)
 
   -- a state has one first word
   pub IsFirstWord-unique : (s : S) (v w : List ℕ) → IsFirstWord after IsGoal s v → IsFirstWord after IsGoal s w → v ≡ w

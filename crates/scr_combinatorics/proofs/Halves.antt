@@ -35,8 +35,7 @@ inversions-next_pair : (x y : ℕ) (xs ys : List ℕ) → length xs ≡ 1 → le
     → inversions (y ∷ ys) ≡ suc (inversions (x ∷ xs))
 inversions-next_pair x y [] ys sx sy h ex ey = absurd (omega arith)
 inversions-next_pair x y (x' ∷ xs) [] sx sy h ex ey = absurd (omega arith)
-inversions-next_pair x y (x' ∷ []) (y' ∷ []) sx sy h ex ey =
-    omega (arith, one_if-le_one (ltb x' x), one_if-le_one (ltb y' y))
+inversions-next_pair x y (x' ∷ []) (y' ∷ []) sx sy h ex ey = grind (arith, one_if-le_one)
 inversions-next_pair x y (x' ∷ (x'' ∷ xs)) ys sx sy h ex ey = absurd (omega arith)
 inversions-next_pair x y (x' ∷ []) (y' ∷ (y'' ∷ ys)) sx sy h ex ey = absurd (omega arith)
 
@@ -95,11 +94,7 @@ half_injective n xs ys p q same half =
 pub half_order : (n : ℕ) (xs ys : List ℕ) → IsPermutation n xs → IsPermutation n ys → parity xs ≡ parity ys
     → ComesBefore xs ys → permutation_number xs / 2 < permutation_number ys / 2
 half_order n xs ys p q same before =
-    let lt : permutation_number xs < permutation_number ys = permutation_number-order xs ys (IsRearranged-permutations n xs ys p q) before in
-    elim (cases_eq (permutation_number xs / 2) (permutation_number ys / 2)) [
-      | inl e ↦ absurd (ComesBefore-irrefl ys (subst (λ zs. ComesBefore zs ys) (half_injective n xs ys p q same e) before))
-      | inr apart ↦ omega arith
-    ]
+    grind (arith, permutation_number-order, IsRearranged-permutations, cases_eq, ComesBefore-irrefl, half_injective)
 
 -- the half of the number of a permutation of at least two numbers is below n! / 2
 pub half_lt : (n : ℕ) (xs : List ℕ) → 2 ≤ n → IsPermutation n xs → permutation_number xs / 2 < factorial n / 2
@@ -142,8 +137,7 @@ half_at-number n xs le h =
     half_injective n _ xs made.permutation h made.same_parity made.number
 
 pub half_at-only : (n odd half : ℕ) (xs : List ℕ) → 1 < n → IsHalf n odd half xs → xs ≡ half_at n odd half
-half_at-only n odd half xs le h =
-    sym (half_at-number n xs le h.permutation) ∙ ap (λ z. half_at n z (permutation_number xs / 2)) h.same_parity ∙ ap (half_at n odd) h.number
+half_at-only n odd half xs le h = grind (arith, half_at-number)
 
 -- there is one for two numbers at least
 pub two_from_half : (n half : ℕ) → half < factorial n / 2 → 2 ≤ n

@@ -1,6 +1,6 @@
 -- States that are told by digits are numbered.
-use Rattle.std.proofs.Common.{◌≡◌, ℕ, ◌≤◌, ◌^◌, List, ap, ◌∙◌, sym}
-use Rattle.scr_combinatorics.specs.Digits.{product, AreDigits, mixed_number}
+use Rattle.std.proofs.Common.{arith, ◌≡◌, ℕ, ◌≤◌, ◌^◌, List, ap, ◌∙◌, sym}
+use Rattle.scr_combinatorics.specs.Digits.{product, AreDigits}
 use Rattle.scr_combinatorics.specs.Numbered.{numbered_by_digits}
 use Rattle.scr_combinatorics.specs.Numbering.{IsOneToOne, IsNumbering}
 use Rattle.scr_combinatorics.proofs.Digits.{digits_one_to_one}
@@ -21,18 +21,7 @@ module _ {S : Type 0} (bases : List ℕ) (state_of : List ℕ → S) (digits_of 
   pub numbering_by_digits : 1 ≤ product bases → product bases ≤ 2 ^ 96
       → ((ds : List ℕ) → AreDigits bases ds → GivesState ds) → ((s : S) → IsValid s → HasDigits s)
       → IsNumbering (numbered_by_digits bases state_of digits_of IsValid)
-  numbering_by_digits some fits gives has =
-      let lists = digits_one_to_one bases some in
-      record {
-        some = some;
-        fits = fits;
-        one_to_one = record {
-          valid = λ i lt. (gives _ (lists.valid i lt)).valid;
-          below = λ s h. lists.below (digits_of s) (has s h).below;
-          number_again = λ i lt. ap (mixed_number bases) (gives _ (lists.valid i lt)).again ∙ lists.number_again i lt;
-          state_again = λ s h. ap state_of (lists.state_again (digits_of s) (has s h).below) ∙ (has s h).again;
-        };
-      }
+  numbering_by_digits some fits gives has = grind (arith, digits_one_to_one)
 
 -- ---- what each numbering gives
 

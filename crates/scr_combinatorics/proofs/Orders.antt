@@ -1,5 +1,5 @@
 -- The order of a dictionary.
-use Rattle.std.proofs.Common.{◌≡◌, ℕ, ◌<◌, ◌⊎◌, inl, inr, List, [], ◌∷◌, length, refl, sym, ap, ◌∙◌, arith}
+use Rattle.std.proofs.Common.{◌≡◌, ℕ, ◌<◌, ◌⊎◌, inl, inr, List, [], ◌∷◌, length, refl, arith}
 use Rattle.std.proofs.lemmas.Bool.{cases_order}
 use Rattle.scr_combinatorics.specs.Lists.{ComesBefore}
 
@@ -8,16 +8,7 @@ pub order_cases : (xs ys : List ℕ) → length xs ≡ length ys → (xs ≡ ys)
 order_cases [] [] e = inl refl
 order_cases [] (y ∷ ys) e = absurd (omega arith)
 order_cases (x ∷ xs) [] e = absurd (omega arith)
-order_cases (x ∷ xs) (y ∷ ys) e =
-    elim (cases_order x y) [
-      | inr (inl lt) ↦ inr (inl (inl lt))
-      | inr (inr gt) ↦ inr (inr (inl gt))
-      | inl same ↦ elim (order_cases xs ys (omega arith)) [
-        | inl all ↦ inl (ap (λ z. z ∷ xs) same ∙ ap (λ zs. y ∷ zs) all)
-        | inr (inl before) ↦ inr (inl (inr (same, before)))
-        | inr (inr after) ↦ inr (inr (inr (sym same, after)))
-      ]
-    ]
+order_cases (x ∷ xs) (y ∷ ys) e = grind (arith, cases_order, order_cases xs ys (omega arith))
 
 -- no list comes before itself
 pub ComesBefore-irrefl : (xs : List ℕ) → ComesBefore xs xs → ⊥

@@ -1,5 +1,6 @@
 -- Places in pairs: how many pairings there are, their numbers and their order.
-use Rattle.std.proofs.Common.{◌≡◌, ℕ, zero, suc, ◌+◌, ◌-◌, ◌*◌, ◌/◌, ◌%◌, ◌<◌, ◌≤◌, inl, inr, List, [], ◌∷◌, map, length, slice_index, refl, sym, ap, ◌∙◌, subst, arith}
+use Rattle.std.proofs.lemmas.Grind.{common_steps}
+use Rattle.std.proofs.Common.{rules, ◌≡◌, ℕ, zero, suc, ◌+◌, ◌-◌, ◌*◌, ◌/◌, ◌%◌, ◌<◌, ◌≤◌, inl, inr, List, [], ◌∷◌, map, length, slice_index, refl, sym, ap, ◌∙◌, subst, arith}
 use Rattle.std.specs.List.{insert, remove}
 use Rattle.std.proofs.lemmas.Bool.{cases_eq, cases_lt, cases_order}
 use Rattle.std.proofs.lemmas.Bool.Decides.{nat_tests}
@@ -35,10 +36,7 @@ other_place-apart x j e = grind (arith, nat_tests)
 
 pub other_place-among : (x j : ℕ) → place_among_others x (other_place x j) ≡ j
 other_place-among x j =
-    elim (cases_lt j x) [
-      | inl lt ↦ omega (arith, ap (place_among_others x) (other_place-low x j lt), place_among_others-low x (suc j) (omega arith))
-      | inr le ↦ omega (arith, ap (place_among_others x) (other_place-high x j le), place_among_others-high x (suc (suc j)) (omega arith))
-    ]
+    grind (arith, cases_lt, other_place-low, place_among_others-low, other_place-high, place_among_others-high)
 
 other_place-rises : (x i j : ℕ) → i < j → other_place x i < other_place x j
 other_place-rises x i j lt = grind (arith, nat_tests)
@@ -75,32 +73,16 @@ module _ (P : ℕ → Type 0) (n x : ℕ) (le : x ≤ n) (first : P 0) (partner 
 
 pub length-with_first_pair : (x : ℕ) (rest : List ℕ) → x ≤ length rest
     → length (with_first_pair x rest) ≡ suc (suc (length rest))
-length-with_first_pair x rest le =
-    let raised : List ℕ = map (other_place x) rest in
-    let size : length raised ≡ length rest = length-map rest (other_place x) in
-    omega (arith, length-insert raised x 0 (omega arith))
+length-with_first_pair x rest le = grind (arith, length-map, length-insert)
 
 module _ (x : ℕ) (rest : List ℕ) (le : x ≤ length rest) where
   pub with_first_pair-partner : slice_index (with_first_pair x rest) (suc x) ≡ 0
-  with_first_pair-partner =
-      let raised : List ℕ = map (other_place x) rest in
-      let size : length raised ≡ length rest = length-map rest (other_place x) in
-      get_or-insert_at raised x 0 0 (omega arith)
+  with_first_pair-partner = grind (arith, length-map, get_or-insert_at)
 
   pub with_first_pair-other : (j : ℕ) → j < length rest
       → slice_index (with_first_pair x rest) (other_place x j) ≡ other_place x (slice_index rest j)
   with_first_pair-other j lt =
-      let raised : List ℕ = map (other_place x) rest in
-      let size : length raised ≡ length rest = length-map rest (other_place x) in
-      let mapped : slice_index raised j ≡ other_place x (slice_index rest j) = get_or-map (other_place x) rest j 0 0 lt in
-      elim (cases_lt j x) [
-        | inl low ↦
-            ap (λ k. slice_index (with_first_pair x rest) k) (other_place-low x j low)
-            ∙ get_or-insert_below raised x 0 0 j low (omega arith) ∙ mapped
-        | inr high ↦
-            ap (λ k. slice_index (with_first_pair x rest) k) {x = other_place x j} {y = suc (j + 1)} (omega (arith, other_place-high x j high))
-            ∙ get_or-insert_above raised x 0 0 j high (omega arith) ∙ mapped
-      ]
+      grind (arith, common_steps, length-map, get_or-map, cases_lt, other_place-low, get_or-insert_below, other_place-high, get_or-insert_above)
 
   with_first_pair-again : without_first_pair x (insert (map (other_place x) rest) x 0) ≡ rest
   with_first_pair-again =
@@ -230,14 +212,7 @@ pub record HasFirstPair (n : ℕ) (xs : List ℕ) : Type 0 where
 pub first_pair : (n : ℕ) (xs : List ℕ) → IsPairing (suc (suc n)) xs → HasFirstPair n xs
 first_pair n [] h = absurd (omega (arith, h.size))
 first_pair n (zero ∷ xs) h = absurd (h.apart 0 (omega arith) refl)
-first_pair n (suc x ∷ xs) h = record {
-  partner = x;
-  others = xs;
-  is = refl;
-  low = partner_le n x xs h;
-  rest = IsPairing-without n x xs h;
-  again = without-again n x xs h;
-}
+first_pair n (suc x ∷ xs) h = search (arith, rules, partner_le, IsPairing-without, without-again)
 
 -- ---- the numbers
 
@@ -273,35 +248,19 @@ pairing_number-lt (suc pairs) xs h =
 
 -- the partner of the first place in the pairing with a number
 first_choice : (pairs r : ℕ) → r < pairing_count (suc pairs) → r / pairing_count pairs ≤ 2 * pairs
-first_choice pairs r lt =
-    let count : ℕ = pairing_count pairs in
-    omega (arith, div_below r count (2 * pairs + 1) (pairing_count-pos pairs) lt)
+first_choice pairs r lt = grind (arith, div_below, pairing_count-pos)
 
 pub IsPairing-at : (pairs r : ℕ) → r < pairing_count pairs → IsPairing (2 * pairs) (pairing_at pairs r)
 unfolding pairing_at
-IsPairing-at zero r lt = record {
-  size = refl;
-  below = λ k low. absurd (omega arith);
-  apart = λ k low. absurd (omega arith);
-  both = λ k low. absurd (omega arith);
-}
+IsPairing-at zero r lt = search (arith, rules)
 IsPairing-at (suc pairs) r lt =
-    let count : ℕ = pairing_count pairs in
-    subst (λ n. IsPairing n (pairing_at (suc pairs) r)) (sym (two_more pairs))
-    (IsPairing-with_first_pair (2 * pairs) (r / count) (pairing_at pairs (r % count)) (first_choice pairs r lt)
-    (IsPairing-at pairs (r % count) (mod_below r count (pairing_count-pos pairs))))
+    search (arith, rules, two_more, IsPairing-with_first_pair, first_choice, mod_below, pairing_count-pos, IsPairing-at pairs)
 
 pub pairing_number-at : (pairs r : ℕ) → r < pairing_count pairs → pairing_number pairs (pairing_at pairs r) ≡ r
 unfolding pairing_number pairing_at
 pairing_number-at zero r lt = omega arith
 pairing_number-at (suc pairs) r lt =
-    let count : ℕ = pairing_count pairs in
-    let low : r % count < count = mod_below r count (pairing_count-pos pairs) in
-    let rest : List ℕ = pairing_at pairs (r % count) in
-    let size = (IsPairing-at pairs (r % count) low).size in
-    ap (λ ys. r / count * count + pairing_number pairs ys) (with_first_pair-again (r / count) rest (omega (arith, size, first_choice pairs r lt)))
-    ∙ ap (λ n. r / count * count + n) (pairing_number-at pairs (r % count) low)
-    ∙ div-add-mod' r count
+    grind (arith, mod_below, pairing_count-pos, IsPairing-at, with_first_pair-again, first_choice, div-add-mod', pairing_number-at pairs)
 
 pub pairing_at-number : (pairs : ℕ) (xs : List ℕ) → IsPairing (2 * pairs) xs
     → pairing_at pairs (pairing_number pairs xs) ≡ xs
@@ -322,12 +281,8 @@ pairing_at-number (suc pairs) xs h =
 -- pairings are numbered by the numbers below their count
 pub pairings_one_to_one : (pairs : ℕ)
     → IsOneToOne (pairing_count pairs) (pairing_at pairs) (pairing_number pairs) (IsPairing (2 * pairs))
-pairings_one_to_one pairs = record {
-  valid = IsPairing-at pairs;
-  below = pairing_number-lt pairs;
-  number_again = pairing_number-at pairs;
-  state_again = pairing_at-number pairs;
-}
+pairings_one_to_one pairs =
+    grind (arith, common_steps, IsPairing-at, pairing_number-lt, pairing_number-at, pairing_at-number)
 
 -- ---- the order
 

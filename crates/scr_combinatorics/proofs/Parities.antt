@@ -1,5 +1,5 @@
 -- Inversions and parities of compositions and inverses.
-use Rattle.std.proofs.Common.{◌≡◌, ℕ, zero, suc, ◌+◌, ◌*◌, ◌%◌, ◌<◌, ◌≤◌, inl, inr, ltb, List, [], ◌∷◌, map, slice_index, refl, sym, ap, ◌∙◌, arith}
+use Rattle.std.proofs.Common.{◌≡◌, ℕ, zero, suc, ◌+◌, ◌*◌, ◌%◌, ◌<◌, ◌≤◌, ltb, List, [], ◌∷◌, map, slice_index, refl, sym, ap, ◌∙◌, arith}
 use Rattle.std.proofs.lemmas.Bool.{cases_eq, cases_order}
 use Rattle.std.proofs.lemmas.Bool.Decides.{nat_tests}
 use Rattle.std.proofs.lemmas.List.Elements.{All-head, All-tail}
@@ -22,11 +22,7 @@ module _ (g : ℕ → ℕ → ℕ) (same : (x y : ℕ) → g x y ≡ g y x) wher
       → total_by (g x) (without x ys) + pair_sum g (without x ys) ≡ pair_sum g ys
   pair_sum-without x [] h = absurd (omega arith)
   pair_sum-without x (y ∷ ys) h =
-      elim (cases_eq y x) [
-        | inl e ↦ rw (without-here x y ys e) (ap (λ z. total_by (g z) ys + pair_sum g ys) (sym e))
-        | inr e ↦ rw (without-other x y ys e)
-            (omega (arith, same x y, total_by-without (g y) x ys (occurs_later x y ys h e), pair_sum-without x ys (occurs_later x y ys h e)))
-      ]
+      grind (arith, cases_eq, without-here, total_by, without-other, total_by-without, occurs_later, pair_sum-without x ys)
 
   pub pair_sum-rearranged : (xs ys : List ℕ) → IsRearranged xs ys → pair_sum g xs ≡ pair_sum g ys
   pair_sum-rearranged [] [] h = refl
@@ -47,8 +43,7 @@ lesser_count-total_by x (y ∷ ys) = ap (λ t. falls x y + t) (lesser_count-tota
 
 inversions-map : (h : ℕ → ℕ) (ks : List ℕ) → inversions (map h ks) ≡ pair_sum (λ a b. falls (h a) (h b)) ks
 inversions-map h [] = refl
-inversions-map h (k ∷ ks) =
-    omega (arith, lesser_count-total_by (h k) (map h ks), total_by-map (falls (h k)) h ks, inversions-map h ks)
+inversions-map h (k ∷ ks) = grind (arith, lesser_count-total_by, total_by-map, inversions-map h ks)
 
 inversions-pair_sum : (ks : List ℕ) → inversions ks ≡ pair_sum falls ks
 inversions-pair_sum [] = refl
@@ -81,14 +76,7 @@ falls-apart x y h = grind (arith, nat_tests)
 -- what h turns and what the places turn come together, but for what both turn
 turned-each : (h : ℕ → ℕ) (a b : ℕ) → (h a ≡ h b → a ≡ b)
     → falls (h a) (h b) + falls a b ≡ turned h a b + 2 * (falls a b * falls (h a) (h b))
-turned-each h a b apart =
-    elim (cases_order a b) [
-      | inl same ↦ rw (one_if-ge b a (omega arith), one_if-ge a b (omega arith)) (omega (arith, ap (λ z. falls (h a) (h z)) (sym same), one_if-ge (h a) (h a) (omega arith)))
-      | inr other ↦ elim other [
-        | inl lt ↦ rw (one_if-lt a b lt, one_if-ge b a (omega arith)) (omega arith)
-        | inr gt ↦ rw (one_if-lt b a gt, one_if-ge a b (omega arith)) (omega (arith, falls-apart (h a) (h b) (λ e. absurd (omega (arith, apart e)))))
-      ]
-    ]
+turned-each h a b apart = grind (arith, cases_order, one_if-ge, one_if-lt, falls-apart)
 
 lesser_count-numbers_from : (x start n : ℕ) → x ≤ start → lesser_count x (numbers_from start n) ≡ 0
 lesser_count-numbers_from x start zero le = refl
@@ -97,8 +85,7 @@ lesser_count-numbers_from x start (suc n) le =
 
 pub inversions-numbers_from : (start n : ℕ) → inversions (numbers_from start n) ≡ 0
 inversions-numbers_from start zero = refl
-inversions-numbers_from start (suc n) =
-    omega (arith, lesser_count-numbers_from start (suc start) n (omega arith), inversions-numbers_from (suc start) n)
+inversions-numbers_from start (suc n) = grind (arith, lesser_count-numbers_from, inversions-numbers_from (suc start) n)
 
 inversions-pick : (h : ℕ → ℕ) (n : ℕ) → ((i j : ℕ) → i < n → j < n → h i ≡ h j → i ≡ j) → (ks : List ℕ)
     → All (λ k. k < n) ks

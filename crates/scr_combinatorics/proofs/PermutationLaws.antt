@@ -1,5 +1,5 @@
 -- What holds of permutations of the numbers below n.
-use Rattle.std.proofs.Common.{◌≡◌, ℕ, zero, suc, ◌+◌, ◌<◌, ◌≤◌, inl, inr, true, eqb, List, [], ◌∷◌, length, slice_index, refl, sym, ap, ◌∙◌, ◌-◌, subst, zero-add, arith}
+use Rattle.std.proofs.Common.{◌≡◌, ℕ, zero, suc, ◌+◌, ◌<◌, ◌≤◌, inl, inr, true, List, [], ◌∷◌, length, slice_index, refl, sym, ap, ◌∙◌, ◌-◌, zero-add, arith}
 use Rattle.std.proofs.lemmas.Bool.{cases_eq, cases_lt, cases_order, and_parts, and_from, eqb-true, eq-eqb, ne_eqb, cond-true, cond-false}
 use Rattle.std.proofs.lemmas.List.{length-map, get_or-map, ext_get_or}
 use Rattle.std.proofs.Math.Nat.{add-zero, add-suc}
@@ -15,12 +15,10 @@ lesser_count-permutation n xs h (suc x) le =
     omega (arith, lesser_count-suc x xs, lesser_count-permutation n xs h x (omega arith), h.once x (omega arith))
 
 pub All-permutation : (n : ℕ) (xs : List ℕ) → IsPermutation n xs → All (λ x. x < n) xs
-All-permutation n xs h =
-    All-from_lesser n xs (lesser_count-permutation n xs h n (omega arith) ∙ sym h.size)
+All-permutation n xs h = grind (arith, All-from_lesser, lesser_count-permutation)
 
 pub at-permutation : (n : ℕ) (xs : List ℕ) → IsPermutation n xs → (i : ℕ) → i < n → slice_index xs i < n
-at-permutation n xs h i lt =
-    All-permutation n xs h i 0 (omega (arith, h.size))
+at-permutation n xs h i lt = grind (arith, All-permutation)
 
 -- no number stands twice
 pub occurrences-permutation : (n : ℕ) (xs : List ℕ) → IsPermutation n xs → (k : ℕ) → occurrences k xs ≤ 1
@@ -39,16 +37,10 @@ IsRearranged-permutations n xs ys p q k =
     ]
 
 pub IsPermutation-rearranged : (n : ℕ) (xs ys : List ℕ) → IsPermutation n xs → IsRearranged xs ys → IsPermutation n ys
-IsPermutation-rearranged n xs ys p same = record {
-  size = sym (length-rearranged xs ys same) ∙ p.size;
-  once = λ k lt. sym (same k) ∙ p.once k lt;
-}
+IsPermutation-rearranged n xs ys p same = grind (arith, length-rearranged)
 
 pub IsPermutation-numbers_from : (n : ℕ) → IsPermutation n (numbers_from 0 n)
-IsPermutation-numbers_from n = record {
-  size = length-numbers_from 0 n;
-  once = λ k lt. occurrences-numbers_from k 0 n (omega arith) (omega arith);
-}
+IsPermutation-numbers_from n = grind (arith, length-numbers_from, occurrences-numbers_from)
 
 -- different places hold different numbers
 pub injective-permutation : (n : ℕ) (xs : List ℕ) → IsPermutation n xs → (i j : ℕ) → i < n → j < n
@@ -66,27 +58,18 @@ injective-permutation n xs h i j li lj e =
 
 has_each_once-true : (n : ℕ) (xs : List ℕ) → has_each_once n xs ≡ true → (k : ℕ) → k < n → occurrences k xs ≡ 1
 has_each_once-true zero xs e k lt = absurd (omega arith)
-has_each_once-true (suc n) xs e k lt =
-    let parts = and_parts (eqb (occurrences n xs) 1) (has_each_once n xs) e in
-    elim (cases_eq k n) [
-      | inl same ↦ ap (λ z. occurrences z xs) same ∙ eqb-true (occurrences n xs) 1 parts.0
-      | inr other ↦ has_each_once-true n xs parts.1 k (omega arith)
-    ]
+has_each_once-true (suc n) xs e k lt = grind (arith, and_parts, cases_eq, eqb-true, has_each_once-true n xs)
 
 has_each_once-from : (n : ℕ) (xs : List ℕ) → ((k : ℕ) → k < n → occurrences k xs ≡ 1) → has_each_once n xs ≡ true
 has_each_once-from zero xs h = refl
-has_each_once-from (suc n) xs h =
-    and_from (eqb (occurrences n xs) 1) (has_each_once n xs) (eq-eqb (occurrences n xs) 1 (h n (omega arith))) (has_each_once-from n xs (λ k lt. h k (omega arith)))
+has_each_once-from (suc n) xs h = grind (arith, and_from, eq-eqb, has_each_once-from n xs)
 
 -- the test says whether a list is a permutation: at numerals `refl` shows the premise
 pub IsPermutation-from_test : (n : ℕ) (xs : List ℕ) → is_permutation n xs ≡ true → IsPermutation n xs
-IsPermutation-from_test n xs e =
-    let parts = and_parts (eqb (length xs) n) (has_each_once n xs) e in
-    record { size = eqb-true (length xs) n parts.0; once = has_each_once-true n xs parts.1 }
+IsPermutation-from_test n xs e = grind (arith, and_parts, eqb-true, has_each_once-true)
 
 pub is_permutation-true : (n : ℕ) (xs : List ℕ) → IsPermutation n xs → is_permutation n xs ≡ true
-is_permutation-true n xs h =
-    and_from (eqb (length xs) n) (has_each_once n xs) (eq-eqb (length xs) n h.size) (has_each_once-from n xs h.once)
+is_permutation-true n xs h = grind (arith, and_from, eq-eqb, has_each_once-from)
 
 -- ---- fewer facts that show a permutation
 
@@ -112,41 +95,26 @@ IsPermutation-from_each n xs size each = record {
 
 pub IsRearranged-pick : (xs ks : List ℕ) → IsPermutation (length xs) ks → IsRearranged (pick xs ks) xs
 IsRearranged-pick xs ks p v =
-    let n : ℕ = length xs in
-    occurrences-total_by v (pick xs ks)
-    ∙ total_by-pick (λ x. one_if (eqb x v)) xs ks (IsRearranged-permutations n ks (numbers_from 0 n) p (IsPermutation-numbers_from n))
-    ∙ sym (occurrences-total_by v xs)
+    grind (arith, occurrences-total_by, total_by-pick, one_if, IsRearranged-permutations, IsPermutation-numbers_from)
 
 pub total-pick : (xs ks : List ℕ) → IsPermutation (length xs) ks → total (pick xs ks) ≡ total xs
-total-pick xs ks p =
-    let n : ℕ = length xs in
-    total-total_by (pick xs ks)
-    ∙ total_by-pick (λ x. x) xs ks (IsRearranged-permutations n ks (numbers_from 0 n) p (IsPermutation-numbers_from n))
-    ∙ sym (total-total_by xs)
+total-pick xs ks p = grind (arith, total-total_by, total_by-pick, IsRearranged-permutations, IsPermutation-numbers_from)
 
 pub IsPermutation-pick : (n : ℕ) (xs ks : List ℕ) → IsPermutation n xs → IsPermutation n ks
     → IsPermutation n (pick xs ks)
-IsPermutation-pick n xs ks p q =
-    let q' : IsPermutation (length xs) ks = subst (λ m. IsPermutation m ks) (sym p.size) q in
-    IsPermutation-rearranged n xs (pick xs ks) p (λ v. sym (IsRearranged-pick xs ks q' v))
+IsPermutation-pick n xs ks p q = grind (arith, IsPermutation-rearranged, IsRearranged-pick)
 
 -- ---- the inverse
 
 pub place_of-lt : (x : ℕ) (xs : List ℕ) → 0 < occurrences x xs → place_of x xs < length xs
 place_of-lt x [] h = absurd (omega arith)
 place_of-lt x (y ∷ ys) h =
-    elim (cases_eq y x) [
-      | inl e ↦ rw (cond-true (eqb y x) 0 (suc (place_of x ys)) (eq-eqb y x e)) (omega arith)
-      | inr e ↦ rw (cond-false (eqb y x) 0 (suc (place_of x ys)) (ne_eqb y x e)) (omega (arith, place_of-lt x ys (omega (arith, one_if-other y x e))))
-    ]
+    grind (arith, cases_eq, cond-true, eq-eqb, cond-false, ne_eqb, one_if-other, place_of-lt x ys)
 
 pub at-place_of : (x : ℕ) (xs : List ℕ) → 0 < occurrences x xs → slice_index xs (place_of x xs) ≡ x
 at-place_of x [] h = absurd (omega arith)
 at-place_of x (y ∷ ys) h =
-    elim (cases_eq y x) [
-      | inl e ↦ rw (cond-true (eqb y x) 0 (suc (place_of x ys)) (eq-eqb y x e)) e
-      | inr e ↦ rw (cond-false (eqb y x) 0 (suc (place_of x ys)) (ne_eqb y x e)) (at-place_of x ys (omega (arith, one_if-other y x e)))
-    ]
+    grind (arith, cases_eq, cond-true, eq-eqb, cond-false, ne_eqb, one_if-other, at-place_of x ys)
 
 pub inverse-at : (n : ℕ) (xs : List ℕ) → length xs ≡ n → (v : ℕ) → v < n → slice_index (inverse xs) v ≡ place_of v xs
 inverse-at n xs size v lt =

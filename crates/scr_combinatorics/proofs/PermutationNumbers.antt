@@ -1,5 +1,5 @@
 -- The numbers of permutations.
-use Rattle.std.proofs.Common.{◌≡◌, ℕ, zero, suc, ◌+◌, ◌-◌, ◌*◌, ◌/◌, ◌%◌, ◌<◌, ◌≤◌, inl, inr, eqb, ltb, List, [], ◌∷◌, map, length, refl, sym, ap, ◌∙◌, arith}
+use Rattle.std.proofs.Common.{rules, ◌≡◌, ℕ, zero, suc, ◌+◌, ◌-◌, ◌*◌, ◌/◌, ◌%◌, ◌<◌, ◌≤◌, inl, inr, eqb, ltb, List, [], ◌∷◌, map, length, refl, sym, ap, ◌∙◌, arith}
 use Rattle.std.proofs.lemmas.Bool.{cases_order}
 use Rattle.std.proofs.lemmas.Bool.Decides.{nat_tests}
 use Rattle.std.proofs.lemmas.List.{length-map}
@@ -19,8 +19,7 @@ factorial-pos (suc n) = omega (arith, factorial-pos n)
 -- the numbers of lists of n are below n!
 pub permutation_number-lt : (xs : List ℕ) → permutation_number xs < factorial (length xs)
 permutation_number-lt [] = omega arith
-permutation_number-lt (x ∷ xs) =
-    omega (arith, permutation_number-lt xs, mul-le-mul_right (factorial (length xs)) (lesser_count-le_length x xs))
+permutation_number-lt (x ∷ xs) = grind (arith, mul-le-mul_right, lesser_count-le_length, permutation_number-lt xs)
 
 -- ---- the order
 
@@ -113,12 +112,7 @@ permutation_number-nth_except : (d : ℕ) (xs : List ℕ)
     → permutation_number (map (nth_except d) xs) ≡ permutation_number xs
 permutation_number-nth_except d [] = refl
 permutation_number-nth_except d (x ∷ xs) =
-    omega (
-      arith,
-      permutation_number-nth_except d xs,
-      ap (λ c. c * factorial (length (map (nth_except d) xs))) (lesser_count-nth_except d x xs),
-      ap (λ m. lesser_count x xs * factorial m) (length-map xs (nth_except d)),
-    )
+    grind (arith, lesser_count-nth_except, length-map, permutation_number-nth_except d xs)
 
 occurrences-nth_except_low : (d k : ℕ) (xs : List ℕ) → k < d → occurrences k (map (nth_except d) xs) ≡ occurrences k xs
 occurrences-nth_except_low d k [] h = refl
@@ -148,10 +142,7 @@ once-nth_except n d xs p le k lt =
 -- a permutation of one number more, from its first number and what follows it
 pub IsPermutation-nth_except : (n d : ℕ) (xs : List ℕ) → IsPermutation n xs → d ≤ n
     → IsPermutation (suc n) (d ∷ map (nth_except d) xs)
-IsPermutation-nth_except n d xs p le = record {
-  size = ap suc (length-map xs (nth_except d) ∙ p.size);
-  once = once-nth_except n d xs p le;
-}
+IsPermutation-nth_except n d xs p le = search (arith, rules, length-map, once-nth_except)
 
 pub permutation_number-first : (n d : ℕ) (xs : List ℕ) → IsPermutation n xs → d ≤ n
     → permutation_number (d ∷ map (nth_except d) xs) ≡ d * factorial n + permutation_number xs
@@ -191,15 +182,9 @@ permutation_number-below n xs p = omega (arith, permutation_number-lt xs, ap fac
 
 pub permutation_at-number : (n : ℕ) (xs : List ℕ) → IsPermutation n xs → permutation_at n (permutation_number xs) ≡ xs
 permutation_at-number n xs p =
-    let r : ℕ = permutation_number xs in
-    let lt : r < factorial n = permutation_number-below n xs p in
-    permutation_number-injective n (permutation_at n r) xs (IsPermutation-at n r lt) p (permutation_number-at n r lt)
+    search (arith, rules, permutation_number-below, permutation_number-injective, IsPermutation-at, permutation_number-at)
 
 -- permutations are numbered by the numbers below n!
 pub permutations_one_to_one : (n : ℕ) → IsOneToOne (factorial n) (permutation_at n) permutation_number (IsPermutation n)
-permutations_one_to_one n = record {
-  valid = IsPermutation-at n;
-  below = permutation_number-below n;
-  number_again = permutation_number-at n;
-  state_again = permutation_at-number n;
-}
+permutations_one_to_one n =
+    search (arith, rules, IsPermutation-at, permutation_number-below, permutation_number-at, permutation_at-number)

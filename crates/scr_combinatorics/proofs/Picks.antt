@@ -1,5 +1,5 @@
 -- Lists that are picked by a list of places.
-use Rattle.std.proofs.Common.{◌≡◌, ℕ, zero, suc, ◌+◌, ◌<◌, ◌≤◌, eqb, List, [], ◌∷◌, map, length, slice_index, refl, sym, ap, ◌∙◌, arith, inl, inr}
+use Rattle.std.proofs.Common.{rules, ◌≡◌, ℕ, zero, suc, ◌+◌, ◌<◌, ◌≤◌, eqb, List, [], ◌∷◌, map, length, slice_index, refl, sym, ap, ◌∙◌, arith, inl, inr}
 use Rattle.std.proofs.lemmas.Bool.{cases_eq}
 use Rattle.std.proofs.lemmas.List.{length-map, get_or-map}
 use Rattle.std.proofs.lemmas.List.Elements.{All-nil, All-cons, All-head, All-tail}
@@ -47,8 +47,7 @@ pick-at xs ks i lt = get_or-map (λ k. slice_index xs k) ks i 0 0 lt
 -- the numbers in order pick the list itself
 pub pick-in_order : (xs : List ℕ) → pick xs (numbers_from 0 (length xs)) ≡ xs
 pick-in_order [] = refl
-pick-in_order (x ∷ xs) =
-    ap (λ ys. x ∷ ys) (map-numbers_suc (λ k. slice_index (x ∷ xs) k) 0 (length xs) ∙ pick-in_order xs)
+pick-in_order (x ∷ xs) = grind (arith, map-numbers_suc, pick-in_order xs)
 
 -- from the numbers in order each list picks itself
 pub pick-from_order : (n : ℕ) (ks : List ℕ) → All (λ k. k < n) ks → pick (numbers_from 0 n) ks ≡ ks
@@ -60,15 +59,11 @@ pick-from_order n (k ∷ ks) below =
 -- picking twice is picking by the composition
 pub pick-pick : (xs ks ls : List ℕ) → All (λ l. l < length ks) ls → pick (pick xs ks) ls ≡ pick xs (pick ks ls)
 pick-pick xs ks [] below = refl
-pick-pick xs ks (l ∷ ls) below =
-    ap (λ x. x ∷ pick (pick xs ks) ls) (pick-at xs ks l (All-head (λ z. z < length ks) l ls below))
-    ∙ ap (λ ys. slice_index xs (slice_index ks l) ∷ ys) (pick-pick xs ks ls (All-tail (λ z. z < length ks) l ls below))
+pick-pick xs ks (l ∷ ls) below = search (arith, rules, pick-at, All-head, All-tail, pick-pick xs ks ls)
 
 pub All-pick : (P : ℕ → Type 0) (xs ks : List ℕ) → All P xs → All (λ k. k < length xs) ks → All P (pick xs ks)
 All-pick P xs [] each below = All-nil P
-All-pick P xs (k ∷ ks) each below =
-    All-cons P (slice_index xs k) (pick xs ks) (each k 0 (All-head (λ z. z < length xs) k ks below))
-    (All-pick P xs ks each (All-tail (λ z. z < length xs) k ks below))
+All-pick P xs (k ∷ ks) each below = search (arith, rules, All-cons, All-head, All-tail, All-pick P xs ks each)
 
 -- any sum over a list is that over what each of its places picks
 pub total_by-pick : (f : ℕ → ℕ) (xs ks : List ℕ) → IsRearranged ks (numbers_from 0 (length xs))

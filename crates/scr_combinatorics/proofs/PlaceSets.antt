@@ -1,5 +1,5 @@
 -- Sets of places: how many there are, their numbers and their order.
-use Rattle.std.proofs.Common.{◌≡◌, ℕ, zero, suc, ◌+◌, pred, ◌-◌, ◌*◌, ◌^◌, ◌<◌, ◌≤◌, inl, inr, eqb, ltb, List, [], ◌∷◌, length, refl, sym, ap, ◌∙◌, subst, arith}
+use Rattle.std.proofs.Common.{rules, ◌≡◌, ℕ, zero, suc, ◌+◌, pred, ◌-◌, ◌*◌, ◌^◌, ◌<◌, ◌≤◌, inl, inr, eqb, ltb, List, [], ◌∷◌, length, refl, sym, ap, ◌∙◌, subst, arith}
 use Rattle.std.specs.Coded.{Unit-prop}
 use Rattle.std.proofs.Props.{props}
 use Rattle.std.proofs.lemmas.Bool.{cases_eq, cases_lt, eq-eqb, ne_eqb, lt-ltb, le-ltb, cond-true, cond-false}
@@ -165,13 +165,7 @@ pub record HasNumber (low count n k r : ℕ) (xs : List ℕ) : Type 0 where
 HasNumber-later : (low count n k r : ℕ) (xs : List ℕ) → HasNumber (suc low) count n (suc k) r xs
     → HasNumber low (suc count) n (suc k) (binomial count k + r) xs
 HasNumber-later low count n k r [] h = absurd (omega (arith, h.size))
-HasNumber-later low count n k r (x ∷ xs) h =
-    let le = h.increasing.0 in
-    record {
-      size = h.size;
-      increasing = IsPlaceSetFrom-lower low n (x ∷ xs) h.increasing;
-      number = omega (arith, number-later low count x xs (λ e. omega arith), h.number, ap (λ m. binomial count (pred m)) h.size);
-    }
+HasNumber-later low count n k r (x ∷ xs) h = grind (arith, IsPlaceSetFrom-lower, number-later)
 
 pub place_set_from-number : (low count n k r : ℕ) → n ≡ low + count → r < binomial count k
     → HasNumber low count n k r (place_set_from low count k r)
@@ -208,16 +202,10 @@ place_set_number-at n k r lt = (HasNumber-at n k r lt).number
 
 pub place_set_at-number : (n k : ℕ) (xs : List ℕ) → IsPlaceSet n k xs → place_set_at n k (place_set_number n xs) ≡ xs
 place_set_at-number n k xs h =
-    let r : ℕ = place_set_number n xs in
-    let lt : r < binomial n k = place_set_number-lt n k xs h in
-    place_set_number-injective n k (place_set_at n k r) xs (IsPlaceSet-at n k r lt) h (place_set_number-at n k r lt)
+    search (arith, rules, place_set_number-lt, place_set_number-injective, IsPlaceSet-at, place_set_number-at)
 
 -- sets of k of n places are numbered by the numbers below n over k
 pub place_sets_one_to_one : (n k : ℕ)
     → IsOneToOne (binomial n k) (place_set_at n k) (place_set_number n) (IsPlaceSet n k)
-place_sets_one_to_one n k = record {
-  valid = IsPlaceSet-at n k;
-  below = place_set_number-lt n k;
-  number_again = place_set_number-at n k;
-  state_again = place_set_at-number n k;
-}
+place_sets_one_to_one n k =
+    search (arith, rules, IsPlaceSet-at, place_set_number-lt, place_set_number-at, place_set_at-number)

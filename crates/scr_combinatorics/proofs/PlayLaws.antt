@@ -54,8 +54,7 @@ pub count_in-append : {T : Type 0} (counted : T → ℕ) (v w : List T)
     → count_in counted (v ++ w) ≡ count_in counted v + count_in counted w
 unfolding count_in
 count_in-append counted [] w = sym (zero-add (count_in counted w))
-count_in-append counted (t ∷ v) w =
-    ap (λ n. counted t + n) (count_in-append counted v w) ∙ sym (add_assoc (counted t) (count_in counted v) (count_in counted w))
+count_in-append counted (t ∷ v) w = grind (arith, add_assoc, count_in-append counted v w)
 
 -- a property that each turn keeps is kept by words
 pub play-keeps : {S T : Type 0} (after : S → T → Option S) (P : S → Type 0)

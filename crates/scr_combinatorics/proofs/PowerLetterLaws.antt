@@ -1,6 +1,6 @@
 -- Letters that are powers of generators: read as such, opposite and merged as powers are, told by a test, and by their
 -- numbers.
-use Rattle.std.proofs.Common.{◌≡◌, ℕ, ◌+◌, ◌-◌, ◌*◌, ◌%◌, ◌<◌, ◌≤◌, Bool, IsTrue, Option, Some, None, refl, sym, ap, ◌∙◌, subst, arith}
+use Rattle.std.proofs.Common.{◌≡◌, ℕ, ◌+◌, ◌-◌, ◌*◌, ◌%◌, ◌<◌, ◌≤◌, Bool, IsTrue, Option, Some, None, arith}
 use Rattle.std.specs.Option.{option_map}
 use Rattle.std.proofs.Math.Nat.{mul-le-mul_left}
 use Rattle.std.proofs.lemmas.Option.{same_Some}
@@ -35,9 +35,7 @@ read_power : (o : Option Power) (generator exponent : ℕ)
     → (let pair : ℕ × ℕ = (generator, exponent) in Some pair ≡ option_map (λ p. (p.generator, p.exponent)) o)
     → (p : Power) × (o ≡ Some p) × (generator ≡ p.generator) × (exponent ≡ p.exponent)
 read_power None generator exponent e = absurd (cc)
-read_power (Some p) generator exponent e =
-    let same = same_Some (generator, exponent) (p.generator, p.exponent) e in
-    (p, refl, ap (λ x. x.0) same, ap (λ x. x.1) same)
+read_power (Some p) generator exponent e = grind (arith, same_Some)
 
 module _ {T : Type 0} (l : PowerLetters T) where
   -- what is read from a letter
@@ -47,18 +45,12 @@ module _ {T : Type 0} (l : PowerLetters T) where
   -- it is the letter of its power
   pub letter_is : AreNumbered l → (t : T) (generator exponent : ℕ) → IsRead (Some (generator, exponent)) t
       → l.letter_of (record { generator = generator; exponent = exponent }) ≡ t
-  letter_is h t generator exponent e =
-      let p = read_power (l.power_at t) generator exponent e in
-      ap (λ g. l.letter_of (record { generator = g; exponent = exponent })) p.2
-      ∙ ap (λ n. l.letter_of (record { generator = p.0.generator; exponent = n })) p.3 ∙ h.only t p.0 p.1
+  letter_is h t generator exponent e = grind (arith, read_power)
 
   -- it is none of a puzzle that hasn't the generator
   pub barred_generator : (t : T) (generator exponent count : ℕ) → IsRead (Some (generator, exponent)) t
       → count ≤ generator → (p : Power) → l.power_at t ≡ Some p → count ≤ p.generator
-  barred_generator t generator exponent count e le p at =
-      let q = read_power (l.power_at t) generator exponent e in
-      let same = same_Some q.0 p (sym q.1 ∙ at) in
-      subst (λ k. count ≤ k) (q.2 ∙ ap (λ x. x.generator) same) le
+  barred_generator t generator exponent count e le p at = grind (arith, read_power, same_Some)
 
   -- ---- numbers
 

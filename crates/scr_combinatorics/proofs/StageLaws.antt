@@ -6,8 +6,8 @@ use Rattle.std.proofs.lemmas.Bool.{cond-true, lt-ltb, ltb-true}
 use Rattle.std.proofs.lemmas.List.Elements.{All-nil, All-cons}
 use Rattle.std.proofs.lemmas.Option.{same_Some}
 use Rattle.scr_combinatorics.specs.Play.{play, count_in}
-use Rattle.scr_combinatorics.specs.Back.{back, IsTakenBack}
-use Rattle.scr_combinatorics.specs.Tidy.{Merging, tidy, IsKeptByTidy}
+use Rattle.scr_combinatorics.specs.Back.{IsTakenBack}
+use Rattle.scr_combinatorics.specs.Tidy.{Merging, IsKeptByTidy}
 use Rattle.scr_combinatorics.specs.Stages.{Stage, by_letters, IsStageWord, HasStageWord, spelled, IsSolution, IsScrambleByStages}
 use Rattle.scr_combinatorics.proofs.PlayLaws.{play-empty, play-parts, play-append, count_in-append}
 use Rattle.scr_combinatorics.proofs.FirstWordLaws.{IsFirstWord-unique}
@@ -52,32 +52,23 @@ module _ {S T : Type 0} (after : S → T → Option S) (letters : ℕ) (letter :
 module _ {S T : Type 0} (after : S → T → Option S) (stage : Stage S T) where
   -- the word is told by the state
   pub one_stage_word : (s : S) (v w : List ℕ) → IsStageWord after stage s v → IsStageWord after stage s w → v ≡ w
-  one_stage_word s v w a b =
-      IsFirstWord-unique (by_letters after stage.letters stage.letter) stage.IsGoal s v w a.first b.first
+  one_stage_word s v w a b = grind (arith, IsFirstWord-unique)
 
   -- and so are the words and the ends from two states that are the same
   pub same_stage : (s r : S) (v w : List ℕ) → s ≡ r
       → (a : IsStageWord after stage s v) (b : IsStageWord after stage r w)
       → (v ≡ w) × (a.first.leads.end ≡ b.first.leads.end)
-  same_stage s r v w e a b =
-      let lettered = by_letters after stage.letters stage.letter in
-      let words : v ≡ w = one_stage_word r v w (subst (λ q. IsStageWord after stage q v) e a) b in (
-        words,
-        same_Some a.first.leads.end b.first.leads.end
-            (sym a.first.leads.played ∙ ap (λ q. play lettered q v) e ∙ ap (play lettered r) words ∙ b.first.leads.played),
-      )
+  same_stage s r v w e a b = grind (arith, one_stage_word, same_Some)
 
   -- played as turns it leads where it leads as a word of letters
   pub play-stage_word : (s : S) (w : List ℕ) (is : IsStageWord after stage s w)
       → play after s (spelled stage.letter w) ≡ Some is.first.leads.end
-  play-stage_word s w is =
-      play-spelled after stage.letters stage.letter s is.first.leads.end w is.first.leads.played
+  play-stage_word s w is = grind (arith, play-spelled)
 
   -- where it leads, the goal holds
   pub stage_goal : (s r : S) (w : List ℕ) → IsStageWord after stage s w
       → play (by_letters after stage.letters stage.letter) s w ≡ Some r → stage.IsGoal r
-  stage_goal s r w is played =
-      subst stage.IsGoal (same_Some is.first.leads.end r (sym is.first.leads.played ∙ played)) is.first.leads.goal
+  stage_goal s r w is played = grind (arith, same_Some)
 
   pub All-stage_word : (s : S) (w : List ℕ) → IsStageWord after stage s w → All (λ n. n < stage.letters) w
   All-stage_word s w is = All-letters after stage.letters stage.letter s is.first.leads.end w is.first.leads.played
@@ -155,13 +146,7 @@ pub count-spelled : {T : Type 0} (counted : T → ℕ) (letter : ℕ → List T)
 unfolding count_in
 count-spelled counted letter most each [] = omega arith
 count-spelled counted letter most each (n ∷ w) =
-    omega (
-      arith,
-      count_in-append counted (letter n) (spelled letter w),
-      each n,
-      count-spelled counted letter most each w,
-      suc-mul (length w) most,
-    )
+    grind (arith, count_in-append, suc-mul, count-spelled counted letter most each w)
 
 pub count-solution : {S T : Type 0} (after : S → T → Option S) (counted : T → ℕ) (some : List (Stage S T)) (each : List ℕ) (s : S) (w : List T)
     → CountsWithin counted some each → IsSolution after some s w → count_in counted w ≤ bounds some each
@@ -183,12 +168,10 @@ count-solution after counted (stage ∷ rest) (most ∷ each) s w within a =
 module _ {S T : Type 0} (after : S → T → Option S) (opposite : T → T) (m : Merging T) (some : List (Stage S T)) where
   pub one_scramble : (s : S) (v w : List T) → IsScrambleByStages after opposite m some s v
       → IsScrambleByStages after opposite m some s w → v ≡ w
-  one_scramble s v w a b =
-      a.taken_back ∙ ap (λ x. back opposite (tidy m x)) (IsSolution-unique after some s a.solution b.solution a.is b.is) ∙ sym b.taken_back
+  one_scramble s v w a b = grind (arith, IsSolution-unique)
 
   -- from where the solution leads a scramble leads to the state
   pub play-scramble : (IsValid : S → Type 0) → IsTakenBack after opposite IsValid → IsKeptByTidy after m IsValid
       → (s end : S) (w : List T) → IsValid s → (a : IsScrambleByStages after opposite m some s w)
       → play after s a.solution ≡ Some end → play after end w ≡ Some s
-  play-scramble IsValid taken_back kept s end w valid a played =
-      ap (play after end) a.taken_back ∙ taken_back s end (tidy m a.solution) valid (kept s end a.solution valid played)
+  play-scramble IsValid taken_back kept s end w valid a played = grind arith

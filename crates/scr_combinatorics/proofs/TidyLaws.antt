@@ -1,5 +1,5 @@
 -- Laws of tidied words over any letters.
-use Rattle.std.proofs.Common.{◌≡◌, ◌+◌, ◌≤◌, Bool, true, false, IsTrue, cond, List, [], ◌∷◌, ◌++◌, Option, Some, None, length, refl, sym, ap, ◌∙◌, subst, arith}
+use Rattle.std.proofs.Common.{◌≡◌, ◌+◌, ◌≤◌, Bool, true, false, IsTrue, cond, List, [], ◌∷◌, ◌++◌, Option, Some, None, length, refl, sym, ap, subst, arith}
 use Rattle.std.specs.Prelude.{All}
 use Rattle.std.proofs.lemmas.List.Elements.{All-nil, All-cons, All-head, All-tail}
 use Rattle.scr_combinatorics.specs.Tidy.{Merging, word_of, with_turn, tidy, begins_alike, IsTidy}
@@ -47,19 +47,13 @@ module _ {T : Type 0} (m : Merging T) (IsTurn : T → Type 0) (l : IsMerging m I
       → begins_alike m u w ≡ false → IsTidy m w → IsTidy m (word_of o ++ w)
   unfolding word_of
   merged_tidy t u w None e a b h = h
-  merged_tidy t u w (Some v) e a b h =
-      IsTidy-cons m v w (begins_alike-first m IsTurn l v u w (l.alike_first t u v a e) ∙ b) h
+  merged_tidy t u w (Some v) e a b h = grind (arith, IsTidy-cons, begins_alike-first)
 
   with_turn_by : (t u : T) (w : List T) (b : Bool) → m.alike t u ≡ b → IsTidy m (u ∷ w)
       → IsTidy m (with_turn m t (u ∷ w))
   unfolding begins_alike
-  with_turn_by t u w true e h =
-      let P : List T → Type 0 = λ x. IsTidy m x in
-      subst P (sym (with_turn-alike m t u w e))
-      (merged_tidy t u w (m.merged t u) refl e (IsTidy-apart m u w h) (IsTidy-rest m u w h))
-  with_turn_by t u w false e h =
-      let P : List T → Type 0 = λ x. IsTidy m x in
-      subst P (sym (with_turn-apart m t (u ∷ w) e)) (IsTidy-cons m t (u ∷ w) e h)
+  with_turn_by t u w true e h = grind (arith, with_turn-alike, merged_tidy, IsTidy-apart, IsTidy-rest)
+  with_turn_by t u w false e h = grind (arith, with_turn-apart, IsTidy-cons)
 
   -- a turn before a tidy word leaves a tidy word
   pub IsTidy-with_turn : (t : T) (w : List T) → IsTidy m w → IsTidy m (with_turn m t w)
@@ -77,8 +71,7 @@ module _ {T : Type 0} (m : Merging T) (IsTurn : T → Type 0) (l : IsMerging m I
 pub tidy-own : {T : Type 0} (m : Merging T) (w : List T) → IsTidy m w → tidy m w ≡ w
 unfolding tidy
 tidy-own m [] h = refl
-tidy-own m (t ∷ w) h =
-    ap (with_turn m t) (tidy-own m w (IsTidy-rest m t w h)) ∙ with_turn-apart m t w (IsTidy-apart m t w h)
+tidy-own m (t ∷ w) h = grind (arith, IsTidy-rest, with_turn-apart, IsTidy-apart, tidy-own m w (IsTidy-rest m t w h))
 
 -- what holds of each turn, and of the turn that two of one face come to
 abbrev pub IsKept : {T : Type 0} → Merging T → (T → Type 0) → Type 0

@@ -1,7 +1,7 @@
 -- A tidied word does what the word does, wherever that is defined.
-use Rattle.std.proofs.Common.{◌≡◌, Bool, true, false, List, [], ◌∷◌, Option, Some, refl, ap, ◌∙◌}
+use Rattle.std.proofs.Common.{arith, ◌≡◌, Bool, true, false, List, [], ◌∷◌, Option, Some, refl, ap, ◌∙◌}
 use Rattle.scr_combinatorics.specs.Play.{play}
-use Rattle.scr_combinatorics.specs.Tidy.{Merging, word_of, with_turn, tidy, begins_alike, IsKeptByTidy}
+use Rattle.scr_combinatorics.specs.Tidy.{Merging, with_turn, tidy, begins_alike, IsKeptByTidy}
 use Rattle.scr_combinatorics.specs.Lawful.{IsLawful}
 use Rattle.scr_combinatorics.proofs.PlayLaws.{play-first, play-parts, play-append}
 use Rattle.scr_combinatorics.proofs.TidyLaws.{with_turn-alike, with_turn-apart}
@@ -11,12 +11,8 @@ module _ {S T : Type 0} (after : S → T → Option S) (opposite : T → T) (m :
   with_turn_by : (s r q : S) (t u : T) (w : List T) (b : Bool) → m.alike t u ≡ b → IsValid s → after s t ≡ Some r
       → play after r (u ∷ w) ≡ Some q → play after s (with_turn m t (u ∷ w)) ≡ Some q
   unfolding begins_alike
-  with_turn_by s r q t u w true a v e p =
-      let parts = play-parts after r q u w p in
-      ap (play after s) (with_turn-alike m t u w a)
-      ∙ play-append after s parts.0 (word_of (m.merged t u)) w (l.merges s r parts.0 t u v a e parts.1) ∙ parts.2
-  with_turn_by s r q t u w false a v e p =
-      ap (play after s) (with_turn-apart m t (u ∷ w) a) ∙ play-first after s r t (u ∷ w) e ∙ p
+  with_turn_by s r q t u w true a v e p = grind (arith, play-parts, with_turn-alike, play-append)
+  with_turn_by s r q t u w false a v e p = grind (arith, with_turn-apart, play-first)
 
   play-with_turn : (s r q : S) (t : T) (w : List T) → IsValid s → after s t ≡ Some r → play after r w ≡ Some q
       → play after s (with_turn m t w) ≡ Some q

@@ -1,5 +1,6 @@
 -- Digits whose sum is 0 modulo their base, and their numbers.
-use Rattle.std.proofs.Common.{◌≡◌, ℕ, zero, suc, ◌+◌, ◌-◌, ◌*◌, ◌/◌, ◌%◌, ◌^◌, ◌<◌, ◌≤◌, inl, inr, List, [], ◌∷◌, ◌++◌, length, replicate, take, slice_index, refl, sym, ap, ◌∙◌, subst, arith, length-append}
+use Rattle.std.proofs.lemmas.Grind.{common_steps}
+use Rattle.std.proofs.Common.{rules, ◌≡◌, ℕ, zero, suc, ◌+◌, ◌-◌, ◌*◌, ◌/◌, ◌%◌, ◌^◌, ◌<◌, ◌≤◌, List, [], ◌∷◌, ◌++◌, length, replicate, take, slice_index, refl, sym, ap, ◌∙◌, subst, arith, length-append}
 use Rattle.std.specs.Prelude.{All}
 use Rattle.std.proofs.lemmas.Bool.{cases_order}
 use Rattle.std.proofs.lemmas.List.{get_or-replicate, length-replicate, length-take-le, take-replicate}
@@ -29,10 +30,7 @@ mixed_number-append (suc n) base [] es size = absurd (omega arith)
 mixed_number-append (suc n) base (d ∷ ds) es size = ap (λ r. d + base * r) (mixed_number-append n base ds es (omega arith))
 
 pub twists_number-lt : (n base : ℕ) (ds : List ℕ) → IsTwists n base ds → twists_number base ds < base ^ (n - 1)
-twists_number-lt n base ds h =
-    let m : ℕ = length ds - 1 in
-    let size : m ≡ n - 1 = ap (λ z. z - 1) h.size in
-    omega (arith, first_number-lt (replicate m base) ds (begins_with_all m base ds (omega arith) h.below), product-replicate m base, ap (λ z. base ^ z) size)
+twists_number-lt n base ds h = grind (arith, first_number-lt, begins_with_all, product-replicate)
 
 -- place k but the last has digit k of the number
 pub twists_number-at : (n base : ℕ) (ds : List ℕ) → IsTwists n base ds → (k : ℕ) → k < n - 1
@@ -57,19 +55,10 @@ total-last (suc n) (d ∷ ds) e = omega (arith, total-last n ds (omega arith))
 
 -- the last digit that makes a sum 0 modulo b is one only
 last_is_fixed : (t x y b : ℕ) → x < b → y < b → (t + x) % b ≡ 0 → (t + y) % b ≡ 0 → x ≤ y → x ≡ y
-last_is_fixed t x y b lx ly ex ey le =
-    let d : ℕ = y - x in
-    let both = same_from_place ((t + y) / b) 0 ((t + x) / b) d b (omega arith) (omega arith)
-    (omega (arith, div-add-mod' (t + y) b, div-add-mod' (t + x) b)) in
-    omega (arith, both.1)
+last_is_fixed t x y b lx ly ex ey le = grind (arith, same_from_place, div-add-mod')
 
 same_last : (t x y b : ℕ) → x < b → y < b → (t + x) % b ≡ 0 → (t + y) % b ≡ 0 → x ≡ y
-same_last t x y b lx ly ex ey =
-    elim (cases_order x y) [
-      | inl e ↦ e
-      | inr (inl lt) ↦ last_is_fixed t x y b lx ly ex ey (omega arith)
-      | inr (inr gt) ↦ sym (last_is_fixed t y x b ly lx ey ex (omega arith))
-    ]
+same_last t x y b lx ly ex ey = grind (arith, cases_order, last_is_fixed)
 
 same_from_front : (n : ℕ) (ds es : List ℕ) → length ds ≡ suc n → length es ≡ suc n → take n ds ≡ take n es
     → slice_index ds n ≡ slice_index es n → ds ≡ es
@@ -79,21 +68,16 @@ same_from_front zero (d ∷ []) (e ∷ []) sd se front last = ap (λ z. z ∷ []
 same_from_front zero (d ∷ (d' ∷ ds)) es sd se front last = absurd (omega arith)
 same_from_front zero (d ∷ []) (e ∷ (e' ∷ es)) sd se front last = absurd (omega arith)
 same_from_front (suc n) (d ∷ ds) (e ∷ es) sd se front last =
-    let head : d ≡ e = cc in
-    let tail : take n ds ≡ take n es = cc in
-    ap (λ z. z ∷ ds) head ∙ ap (λ zs. e ∷ zs) (same_from_front n ds es (omega arith) (omega arith) tail last)
+    grind (arith, same_from_front n ds es (omega arith) (omega arith))
 
 -- the digits before the last one
 front_digits : (m base : ℕ) (ds : List ℕ) → length ds ≡ suc m → All (λ d. d < base) ds
     → AreDigits (replicate m base) (take m ds)
-front_digits m base ds size h =
-    (AreDigits-replicate m base (take m ds)).1 (length-take-le m ds (omega arith), All-take (λ z. z < base) m ds h)
+front_digits m base ds size h = grind (arith, common_steps, AreDigits-replicate, length-take-le, All-take)
 
 front_number : (m base : ℕ) (ds : List ℕ) → length ds ≡ suc m
     → twists_number base ds ≡ mixed_number (replicate m base) (take m ds)
-front_number m base ds size =
-    let back : length ds - 1 ≡ m = omega arith in
-    ap (λ z. mixed_number (replicate z base) ds) back ∙ sym (mixed_number-take m base ds)
+front_number m base ds size = grind (arith, mixed_number-take)
 
 pub twists_number-injective : (n base : ℕ) (ds es : List ℕ) → 0 < n → IsTwists n base ds → IsTwists n base es
     → twists_number base ds ≡ twists_number base es → ds ≡ es
@@ -130,20 +114,12 @@ IsTwists-with_sum_fixed : (n base : ℕ) (ds : List ℕ) → 0 < base → length
     → IsTwists (suc n) base (with_sum_fixed base ds)
 unfolding with_sum_fixed
 IsTwists-with_sum_fixed n base ds pos size h =
-    let last : ℕ = (base - total ds % base) % base in
-    record {
-      size = omega (arith, length-append ds (last ∷ []));
-      below = All-push (λ z. z < base) ds last h (mod_below (base - total ds % base) base pos);
-      sum_fixed = ap (λ z. z % base) (total-push ds last) ∙ completed (total ds) base pos;
-    }
+    grind (arith, common_steps, length-append, All-push, mod_below, total-push, completed)
 
 twists_number-with_sum_fixed : (n base : ℕ) (ds : List ℕ) → length ds ≡ n
     → twists_number base (with_sum_fixed base ds) ≡ mixed_number (replicate n base) ds
 unfolding with_sum_fixed
-twists_number-with_sum_fixed n base ds size =
-    let last : List ℕ = (base - total ds % base) % base ∷ [] in
-    let back : length (ds ++ last) - 1 ≡ n = omega (arith, length-append ds last) in
-    ap (λ z. mixed_number (replicate z base) (ds ++ last)) back ∙ mixed_number-append n base ds last size
+twists_number-with_sum_fixed n base ds size = grind (arith, length-append, mixed_number-append)
 
 pub IsTwists-twists_at : (n base number : ℕ) → 0 < n → 0 < base → IsTwists n base (twists_at n base number)
 unfolding twists_at
@@ -166,15 +142,10 @@ twists_number-twists_at n base number pos lt =
 pub twists_at-number : (n base : ℕ) (ds : List ℕ) → 0 < n → 0 < base → IsTwists n base ds
     → twists_at n base (twists_number base ds) ≡ ds
 twists_at-number n base ds some pos h =
-    twists_number-injective n base _ ds some (IsTwists-twists_at n base (twists_number base ds) some pos) h
-    (twists_number-twists_at n base (twists_number base ds) pos (twists_number-lt n base ds h))
+    search (arith, rules, twists_number-injective, IsTwists-twists_at, twists_number-twists_at, twists_number-lt)
 
 -- they are numbered by the numbers below base ^ (n - 1)
 pub twists_one_to_one : (n base : ℕ) → 0 < n → 0 < base
     → IsOneToOne (base ^ (n - 1)) (twists_at n base) (twists_number base) (IsTwists n base)
-twists_one_to_one n base some pos = record {
-  valid = λ i lt. IsTwists-twists_at n base i some pos;
-  below = twists_number-lt n base;
-  number_again = λ i lt. twists_number-twists_at n base i pos lt;
-  state_again = λ ds h. twists_at-number n base ds some pos h;
-}
+twists_one_to_one n base some pos =
+    search (arith, rules, IsTwists-twists_at, twists_number-lt, twists_number-twists_at, twists_at-number)

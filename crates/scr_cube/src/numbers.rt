@@ -27,8 +27,12 @@ pub struct HeldNumbers;
 /// How many flips, twists, lists of corners and lists of edges of one parity there are.
 const CUBE_BASES: [u128; 4] = [2048, 2187, 40_320, 239_500_800];
 
+/// How many cubes there are: 2^11 flips, 3^7 twists, 8! lists of corners, and 12!/2 lists of edges, those of the corners'
+/// parity.
+const CUBES: u128 = 43_252_003_274_489_856_000;
+
 /// How many holds and cubes there are.
-const HELD_BASES: [u128; 2] = [24, 43_252_003_274_489_856_000];
+const HELD_BASES: [u128; 2] = [24, CUBES];
 
 /// How many twists and lists of corners there are.
 const BASES_222: [u128; 2] = [729, 5040];
@@ -60,9 +64,9 @@ impl Numbering for CubeNumbers {
         ])
     }
 
-    // 2^11 flips, 3^7 twists, 8! lists of corners, and 12!/2 lists of edges, those of the corners' parity.
+    #[tactic(auto, using(crate::proofs::Numbered333::cube_numbering))]
     fn count(&self) -> u128 {
-        MixedRadix::new(CUBE_BASES).count()
+        CUBES
     }
 }
 
@@ -90,8 +94,10 @@ impl Numbering for Numbers222 {
         ])
     }
 
+    // 3^6 twists and 7! lists of corners.
+    #[tactic(auto, using(crate::proofs::Numbered222::numbering_222))]
     fn count(&self) -> u128 {
-        MixedRadix::new(BASES_222).count()
+        3_674_160
     }
 }
 
@@ -115,7 +121,9 @@ impl Numbering for HeldNumbers {
         MixedRadix::new(HELD_BASES).rank(&[u128::from(state.hold()), cube])
     }
 
+    // 24 times as many as cubes.
+    #[tactic(auto, using(crate::proofs::NumberedHeld::held_numbering))]
     fn count(&self) -> u128 {
-        MixedRadix::new(HELD_BASES).count()
+        1_038_048_078_587_756_544_000
     }
 }

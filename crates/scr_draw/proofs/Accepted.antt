@@ -1,6 +1,6 @@
 -- Each number below the count is the answer of equally many accepted numbers.
 use Rattle.std.proofs.Common.{◌≡◌, ◌==◌, ℕ, ◌+◌, ◌-◌, ◌*◌, ◌/◌, ◌%◌, ◌^◌, ◌<◌, ◌≤◌, Bool, ◌&&◌, refl, arith}
-use Rattle.std.proofs.lemmas.Bool.{and_from, and_left, and_parts, eq-eqb, eqb-true, le-ltb, lt-ltb}
+use Rattle.std.proofs.lemmas.Bool.{and_left, le-ltb, lt-ltb}
 use Rattle.std.proofs.Math.Nat.{div-mul-le_self}
 use Rattle.std.specs.Prelude.{IsTrue, ◌↔◌, nat_lt}
 use Rattle.scr_draw.specs.Attempt.{is_accepted, quotient}
@@ -31,16 +31,9 @@ count_answered count i h = count_in_runs count i (2 ^ 96 / count) (2 ^ 96) h (di
 
 -- what the test tells
 pub answered_tells : (count i v : ℕ) → IsTrue (is_answered count i v) ↔ (IsTrue (is_accepted count v) × (v % count ≡ i))
-answered_tells count i v = (
-  λ h. let parts = and_parts (is_accepted count v) (v % count == i) h in (parts.0, eqb-true (v % count) i parts.1),
-  λ h. and_from (is_accepted count v) (v % count == i) h.0 (eq-eqb (v % count) i h.1),
-)
+answered_tells count i v = grind arith
 
 -- each number below the count is the answer of `quotient count` accepted numbers
 pub answered_equally : (count i : ℕ) → i < count
     → IsCount (λ v. IsTrue (is_accepted count v) × (v % count ≡ i)) (2 ^ 96) (quotient count)
-answered_equally count i h = record {
-  test = is_answered count i;
-  tells = λ v below. answered_tells count i v;
-  counted = count_answered count i h;
-}
+answered_equally count i h = grind (arith, count_answered count i h)

@@ -1,6 +1,5 @@
 -- How many lists of numbers draw a state.
-use Rattle.std.proofs.Common.{◌≡◌, ℕ, zero, suc, ◌/◌, ◌%◌, ◌^◌, ◌<◌, Bool, true, false, ◌&&◌, ◌||◌, Option, Some, None, replicate, refl, sym, ◌∙◌, inl, inr, arith}
-use Rattle.std.proofs.lemmas.Bool.{and_parts, or_cases}
+use Rattle.std.proofs.Common.{◌≡◌, ℕ, zero, suc, ◌/◌, ◌%◌, ◌^◌, ◌<◌, Bool, true, false, ◌&&◌, ◌||◌, Option, Some, None, replicate, refl, ◌∙◌, arith}
 use Rattle.std.proofs.Math.Nat.{pow-succ'}
 use Rattle.std.specs.Option.{option_or}
 use Rattle.std.specs.Prelude.{IsTrue, ◌↔◌}
@@ -20,34 +19,15 @@ count_draws : (p m : ℕ → Bool) (radix : ℕ) → ((v : ℕ) → v < radix �
     → count_below (draw_test p m radix len) (radix ^ len) ≡ ways radix (count_below p radix) (count_below m radix) len
 unfolding ways
 count_draws p m radix h zero = count_none (λ n. false) (radix ^ zero) (λ v lt. refl)
-count_draws p m radix h (suc len) =
-    let ih = count_draws p m radix h len in
-    let pairs = count_pairs p m (draw_test p m radix len) radix h (radix ^ len) in
-    rw (pow-succ' radix len) (pairs ∙ rw ih refl)
+count_draws p m radix h (suc len) = grind (arith, count_pairs, pow-succ', count_draws p m radix h len)
 
 or_right : (a : Bool) → (a || (true && true)) ≡ true
-or_right true = refl
-or_right false = refl
+or_right a = grind arith
 
 -- one number, and the numbers after it
 first_number : {S : Type 0} (s : S) (a b x : Bool) (o later : Option S) → (IsTrue a ↔ (o ≡ Some s))
     → (IsTrue b ↔ (o ≡ None)) → (IsTrue x ↔ (later ≡ Some s)) → IsTrue (a || (b && x)) ↔ (option_or o later ≡ Some s)
-first_number s a b x (Some t) later ha hb hx = (
-  λ h.
-      elim (or_cases a (b && x) h) [
-        | inl here ↦ ha.0 here
-        | inr after ↦ let no = hb.0 (and_parts b x after).0 in cc no
-      ],
-  λ e. let yes_a = ha.1 e in rw yes_a refl,
-)
-first_number s a b x None later ha hb hx = (
-  λ h.
-      elim (or_cases a (b && x) h) [
-        | inl here ↦ let no = ha.0 here in cc no
-        | inr after ↦ hx.0 (and_parts b x after).1
-      ],
-  λ e. let yes_b = hb.1 refl in let yes_x = hx.1 e in rw (yes_b, yes_x) (or_right a),
-)
+first_number s a b x o later ha hb hx = grind arith
 
 draws_tell : {S : Type 0} (s : S) (hits : ℕ → Option S) (p m : ℕ → Bool) (radix : ℕ) → 0 < radix
     → ((v : ℕ) → v < radix → IsTrue (p v) ↔ (hits v ≡ Some s)) → ((v : ℕ) → v < radix → IsTrue (m v) ↔ (hits v ≡ None))
@@ -55,15 +35,12 @@ draws_tell : {S : Type 0} (s : S) (hits : ℕ → Option S) (p m : ℕ → Bool)
 unfolding drawn
 draws_tell s hits p m radix some hp hm zero n = (λ h. cc h, λ h. cc h)
 draws_tell s hits p m radix some hp hm (suc len) n =
-    let below : n % radix < radix = omega arith in
-    first_number s _ _ _ (hits (n % radix)) (drawn hits (mixed_digits (replicate len radix) (n / radix)))
-    (hp (n % radix) below) (hm (n % radix) below) (draws_tell s hits p m radix some hp hm len (n / radix))
+    grind (arith, replicate len radix, draws_tell s hits p m radix some hp hm len (n / radix))
 
 -- a number that hits a state does not miss
 hit_is_no_miss : {S : Type 0} (s : S) (a b : Bool) (o : Option S) → (IsTrue a ↔ (o ≡ Some s)) → (IsTrue b ↔ (o ≡ None))
     → a ≡ true → b ≡ false
-hit_is_no_miss s a true o ha hb h = let hit = ha.0 h in let miss = hb.0 refl in cc (sym hit ∙ miss)
-hit_is_no_miss s a false o ha hb h = refl
+hit_is_no_miss s a b o ha hb h = grind arith
 
 -- Where `hits` numbers hit a state and `misses` hit nothing, `ways` lists of a length draw the state.
 pub count_ways : {S : Type 0} (s : S) (hit_of : ℕ → Option S) (radix hits misses : ℕ) → 0 < radix

@@ -1,5 +1,5 @@
 -- Counting by tests that agree, over ranges, and over pairs.
-use Rattle.std.proofs.Common.{◌≡◌, ◌==◌, ℕ, zero, suc, ◌+◌, ◌*◌, ◌/◌, ◌%◌, ◌<◌, ◌≤◌, Bool, true, false, cond, ◌&&◌, ◌||◌, refl, sym, ◌∙◌, inl, inr, add-one, add-zero, arith}
+use Rattle.std.proofs.Common.{◌≡◌, ◌==◌, ℕ, zero, suc, ◌+◌, ◌*◌, ◌/◌, ◌%◌, ◌<◌, ◌≤◌, Bool, true, false, cond, ◌&&◌, ◌||◌, refl, ◌∙◌, inl, inr, add-zero, arith}
 use Rattle.std.proofs.lemmas.Bool.{cases_eq, eq-eqb, ne_eqb}
 use Rattle.std.proofs.lemmas.Nat.{div-mul-add, mod-mul-add}
 use Rattle.std.proofs.Math.Nat.{mul-suc, suc-mul, add-suc, zero-mul, mul-zero, mul_comm}
@@ -78,13 +78,7 @@ count_runs count i (suc q) h =
 
 -- a choice by a first test, or by a second together with a fixed answer
 one_choice : (a b x : Bool) → (a ≡ true → b ≡ false) → cond (a || (b && x)) 1 0 ≡ cond a 1 0 + cond x (cond b 1 0) 0
-one_choice true true x h = cc (h refl)
-one_choice true false true h = refl
-one_choice true false false h = refl
-one_choice false true true h = refl
-one_choice false true false h = refl
-one_choice false false true h = refl
-one_choice false false false h = refl
+one_choice a b x h = grind arith
 
 count_choice : (p m : ℕ → Bool) (x : Bool) (n : ℕ) → ((v : ℕ) → v < n → p v ≡ true → m v ≡ false)
     → count_below (λ v. p v || (m v && x)) n ≡ count_below p n + cond x (count_below m n) 0
@@ -94,25 +88,19 @@ count_choice p m true (suc n) h =
     let ih = count_choice p m true n (λ v lt. h v (omega arith)) in
     let here = one_choice (p n) (m n) true (h n (omega arith)) in
     omega (arith, ih, here, count_step (λ v. p v || (m v && true)) n, count_step p n, count_step m n)
-count_choice p m false (suc n) h =
-    let ih = count_choice p m false n (λ v lt. h v (omega arith)) in
-    let here = one_choice (p n) (m n) false (h n (omega arith)) in
-    omega (arith, ih, here, count_step (λ v. p v || (m v && false)) n, count_step p n)
+count_choice p m false (suc n) h = grind arith
 
 -- the sum of a step of `count_pairs`
 sums : (x : Bool) (before p m t next u v : ℕ) → u ≡ before + m * t → v ≡ p + cond x m 0 → next ≡ t + cond x 1 0
     → u + v ≡ before + p + m * next
-sums true before p m t next u v eu ev en = rw (eu, ev, en, add-one, mul-suc) (omega arith)
-sums false before p m t next u v eu ev en = rw (eu, ev, en, add-zero) (omega arith)
+sums x before p m t next u v eu ev en = grind arith
 
 -- Pairs of a number below a radix and one below b, as the numbers below radix * b: those whose first
 -- number passes p, or whose first number passes m and the second t.
 pub count_pairs : (p m t : ℕ → Bool) (radix : ℕ) → ((v : ℕ) → v < radix → p v ≡ true → m v ≡ false) → (b : ℕ)
     → count_below (λ n. p (n % radix) || (m (n % radix) && t (n / radix))) (radix * b)
     ≡ count_below p radix * b + count_below m radix * count_below t b
-count_pairs p m t radix h zero =
-    let pair = λ (n : ℕ). p (n % radix) || (m (n % radix) && t (n / radix)) in
-    rw (mul-zero radix, count_zero pair, count_zero t, mul-zero, mul-zero) refl
+count_pairs p m t radix h zero = grind (arith, mul-zero, count_zero)
 count_pairs p m t radix h (suc b) =
     let pair = λ (n : ℕ). p (n % radix) || (m (n % radix) && t (n / radix)) in
     let choice = λ (v : ℕ). p v || (m v && t b) in
@@ -129,7 +117,4 @@ count_pairs p m t radix h (suc b) =
 
 -- tests that tell the same agree
 pub tests_agree : {P : Type 0} (a b : Bool) → (IsTrue a ↔ P) → (IsTrue b ↔ P) → a ≡ b
-tests_agree true true ha hb = refl
-tests_agree true false ha hb = sym (hb.1 (ha.0 refl))
-tests_agree false true ha hb = ha.1 (hb.0 refl)
-tests_agree false false ha hb = refl
+tests_agree a b ha hb = grind arith

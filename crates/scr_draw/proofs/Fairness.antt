@@ -1,8 +1,6 @@
 -- Drawing by attempts on a numbering is fair.
-use Rattle.std.proofs.Common.{◌≡◌, ℕ, ◌*◌, ◌/◌, ◌%◌, ◌^◌, ◌<◌, ◌≤◌, Bool, true, false, ◌&&◌, Option, Some, None, is_none, refl, sym, ap, ◌∙◌, arith, lit<}
-use Rattle.std.proofs.lemmas.Bool.{and_parts}
-use Rattle.std.proofs.Math.Nat.{le-div_iff_mul-le}
-use Rattle.std.specs.Prelude.{IsTrue, ◌↔◌, if◌then◌else◌}
+use Rattle.std.proofs.Common.{◌≡◌, ℕ, ◌/◌, ◌%◌, ◌^◌, ◌<◌, ◌≤◌, Bool, Option, Some, None, is_none, refl, arith, lit<}
+use Rattle.std.specs.Prelude.{IsTrue, ◌↔◌}
 use Rattle.scr_draw.specs.Attempt.{is_accepted, quotient}
 use Rattle.scr_draw.specs.Count.{IsCount, count_below}
 use Rattle.scr_draw.specs.Drawn.{hit}
@@ -13,28 +11,17 @@ use Rattle.scr_draw.proofs.Accepted.{answered_tells, count_answered, is_answered
 use Rattle.scr_draw.proofs.CountedDraws.{count_ways}
 
 one_run : (count bound : ℕ) → 1 ≤ count → count ≤ bound → 1 ≤ bound / count
-one_run count bound some fits =
-    let once : 1 * count ≤ bound = omega arith in
-    let above : 0 < count = some in
-    (le-div_iff_mul-le above).1 once
+one_run count bound some fits = grind arith
 
 -- at least one run of numbers is accepted
 pub quotient_some : (count : ℕ) → 1 ≤ count → count ≤ 2 ^ 96 → 1 ≤ quotient count
 quotient_some count some fits = one_run count (2 ^ 96) some fits
 
--- the value of an option, told apart from none
-some_same : {S : Type 0} (b : Bool) (x s : S) → (if b then Some x else None) ≡ Some s → IsTrue b × (x ≡ s)
-some_same true x s h = (refl, cc h)
-some_same false x s h = cc h
-
 -- what it is for a number to hit a state
 pub hit_parts : {S : Type 0} (count : ℕ) (state_at : ℕ → S) (permits : S → Bool) (v : ℕ) (s : S)
     → hit count state_at permits v ≡ Some s
     → IsTrue (is_accepted count v) × (state_at (v % count) ≡ s) × IsTrue (permits s)
-hit_parts count state_at permits v s h =
-    let both = some_same (is_accepted count v && permits (state_at (v % count))) (state_at (v % count)) s h in
-    let parts = and_parts (is_accepted count v) (permits (state_at (v % count))) both.0 in
-    (parts.0, both.1, rw both.1 at parts.1)
+hit_parts count state_at permits v s h = grind arith
 
 pub hit_from : {S : Type 0} (count : ℕ) (state_at : ℕ → S) (permits : S → Bool) (v : ℕ) (s : S)
     → IsTrue (is_accepted count v) → state_at (v % count) ≡ s → IsTrue (permits s)
@@ -43,16 +30,12 @@ hit_from count state_at permits v s accepted same permitted = rw (accepted, same
 
 -- whether a number hits nothing
 is_none_tells : {S : Type 0} (o : Option S) → IsTrue (is_none o) ↔ (o ≡ None)
-is_none_tells (Some s) = (λ h. cc h, λ h. cc h)
-is_none_tells None = (λ h. refl, λ h. refl)
+is_none_tells o = grind arith
 
 module _ {S : Type 0} (n : Numbered S) (law : IsNumbering n) where
   -- the answer of an accepted number gives a valid state exactly where it is that state's number
   same_state : (s : S) → n.IsValid s → (i : ℕ) → i < n.count → (i ≡ n.number_of s) ↔ (n.state_at i ≡ s)
-  same_state s valid i below = (
-    λ e. ap n.state_at e ∙ law.one_to_one.state_again s valid,
-    λ e. sym (law.one_to_one.number_again i below) ∙ ap n.number_of e,
-  )
+  same_state s valid i below = grind arith
 
   -- each valid state is that of equally many accepted numbers
   pub state_equally : (s : S) → n.IsValid s
@@ -74,23 +57,11 @@ module _ {S : Type 0} (n : Numbered S) (law : IsNumbering n) where
     -- and is hit by as many where it passes the test
     hits_equally : (s : S) → n.IsValid s → IsTrue (permits s)
         → IsCount (λ v. hit n.count n.state_at permits v ≡ Some s) (2 ^ 96) (quotient n.count)
-    hits_equally s valid passes =
-        let all = state_equally s valid in record {
-          test = all.test;
-          tells = λ v below. (
-            λ h. let parts = (all.tells v below).0 h in hit_from n.count n.state_at permits v s parts.0 parts.1 passes,
-            λ h. let parts = hit_parts n.count n.state_at permits v s h in (all.tells v below).1 (parts.0, parts.1),
-          );
-          counted = all.counted;
-        }
+    hits_equally s valid passes = grind (arith, state_equally s valid)
 
     -- a state that a number hits is valid and passes the test
     hit_is_permitted : (v : ℕ) (s : S) → hit n.count n.state_at permits v ≡ Some s → n.IsValid s × IsTrue (permits s)
-    hit_is_permitted v s h =
-        let parts = hit_parts n.count n.state_at permits v s h in
-        let some = law.some in
-        let place : v % n.count < n.count = omega arith in
-        (rw parts.1 at (law.one_to_one.valid (v % n.count) place), parts.2)
+    hit_is_permitted v s h = grind arith
 
     -- fairness, for the valid states that pass a test
     pub fair : IsFair n.count n.state_at (hit n.count n.state_at permits) (λ s. n.IsValid s × IsTrue (permits s))
@@ -115,12 +86,4 @@ module _ {S : Type 0} (n : Numbered S) (law : IsNumbering n) where
 -- fairness, for other words on the same states
 pub fair_for : {S : Type 0} {count : ℕ} {state_at : ℕ → S} {hits : ℕ → Option S} (P Q : S → Type 0)
     → ((s : S) → P s ↔ Q s) → IsFair count state_at hits P → IsFair count state_at hits Q
-fair_for P Q same fair_p = record {
-  some = fair_p.some;
-  equally = λ s h. fair_p.equally s ((same s).1 h);
-  hit_equally = λ s h. fair_p.hit_equally s ((same s).1 h);
-  permitted = λ v s below h. (same s).0 (fair_p.permitted v s below h);
-  misses = fair_p.misses;
-  missed = fair_p.missed;
-  same_ways = λ len s h. fair_p.same_ways len s ((same s).1 h);
-}
+fair_for P Q same fair_p = grind arith

@@ -26,25 +26,14 @@ first_after : {S : Type 0} (hits : ℕ → Option S) (word : ℕ → ℕ) (place
     → hits (attempt_value word place) ≡ None → IsFirstHit hits word (place + 3) all s tried
     → IsFirstHit hits word place (suc all) s (suc tried)
 first_after hits word place all s tried miss later =
-    let below = later.below in record {
-      below = omega arith;
-      here = ap (λ (p : ℕ). hits (attempt_value word p)) (sym (next_place place tried)) ∙ later.here;
-      missed = missed_after hits word place tried miss later.missed;
-    }
+    grind (arith, next_place place tried, missed_after hits word place tried miss later.missed)
 
 -- what the first attempt hits, told apart
 by_first : {S : Type 0} (hits : ℕ → Option S) (word : ℕ → ℕ) (s : S) (all place : ℕ) (o : Option S)
     → hits (attempt_value word place) ≡ o → option_or o (drawn hits (attempt_values word (place + 3) all)) ≡ Some s
     → (drawn hits (attempt_values word (place + 3) all) ≡ Some s → (tried : ℕ) × IsFirstHit hits word (place + 3) all s tried)
     → (tried : ℕ) × IsFirstHit hits word place (suc all) s tried
-by_first hits word s all place (Some t) is h later = (
-  0,
-  record {
-    below = omega arith;
-    here = ap (λ (p : ℕ). hits (attempt_value word p)) (first_place place) ∙ is ∙ h;
-    missed = λ earlier lt. absurd (omega arith);
-  },
-)
+by_first hits word s all place (Some t) is h later = grind arith
 by_first hits word s all place None is h later =
     let r = later h in
     (suc r.0, first_after hits word place all s r.0 is r.1)
@@ -62,9 +51,7 @@ of_first : {S : Type 0} (hits : ℕ → Option S) (word : ℕ → ℕ) (s : S) (
     → (drawn hits (attempt_values word place all) ≡ Some s) × (numbers_read hits (attempt_values word place all) ≡ suc tried)
 unfolding attempt_values drawn numbers_read
 of_first hits word s zero place tried first = let below = first.below in absurd (omega arith)
-of_first hits word s (suc all) place zero first =
-    let here = ap (λ (p : ℕ). hits (attempt_value word p)) (sym (first_place place)) ∙ first.here in
-    (rw here refl, rw here refl)
+of_first hits word s (suc all) place zero first = grind arith
 of_first hits word s (suc all) place (suc tried) first =
     let below = first.below in
     let miss = ap (λ (p : ℕ). hits (attempt_value word p)) (sym (first_place place)) ∙ first.missed 0 (omega arith) in
@@ -100,17 +87,14 @@ nothing_drawn hits word (suc all) place h =
 
 -- and where none is drawn each misses
 none_in_front : {S : Type 0} (o later : Option S) → option_or o later ≡ None → (o ≡ None) × (later ≡ None)
-none_in_front (Some s) later h = cc h
-none_in_front None later h = (refl, h)
+none_in_front o later h = grind arith
 
 each_missed : {S : Type 0} (hits : ℕ → Option S) (word : ℕ → ℕ) (all place : ℕ)
     → drawn hits (attempt_values word place all) ≡ None
     → (tried : ℕ) → tried < all → hits (attempt_value word (place + 3 * tried)) ≡ None
 unfolding attempt_values drawn
 each_missed hits word zero place h tried lt = absurd (omega arith)
-each_missed hits word (suc all) place h zero lt =
-    ap (λ (p : ℕ). hits (attempt_value word p)) (first_place place)
-    ∙ (none_in_front (hits (attempt_value word place)) (drawn hits (attempt_values word (place + 3) all)) h).0
+each_missed hits word (suc all) place h zero lt = grind arith
 each_missed hits word (suc all) place h (suc tried) lt =
     ap (λ (p : ℕ). hits (attempt_value word p)) (sym (next_place place tried))
     ∙ each_missed hits word all (place + 3)

@@ -1,17 +1,15 @@
 -- Which state some numbers draw, whichever test tells the needs of states.
-use Rattle.std.proofs.Common.{◌≡◌, ℕ, ◌%◌, ◌<◌, ◌≤◌, Bool, ◌&&◌, List, [], ◌∷◌, ◌++◌, Option, Some, None, refl, sym, ap, ◌∙◌, subst, arith}
+use Rattle.std.proofs.Common.{◌≡◌, ℕ, ◌%◌, ◌<◌, ◌≤◌, Bool, List, [], ◌∷◌, ◌++◌, Option, Some, None, refl, sym, ap, ◌∙◌, subst, arith}
 use Rattle.std.specs.Option.{option_or}
-use Rattle.std.specs.Prelude.{All, IsTrue, ◌↔◌, if◌then◌else◌}
+use Rattle.std.specs.Prelude.{All, IsTrue, ◌↔◌}
 use Rattle.std.proofs.lemmas.List.Elements.{All-nil, All-cons, All-head, All-tail}
 use Rattle.scr_combinatorics.specs.Numbered.{Numbered}
 use Rattle.scr_combinatorics.specs.Numbering.{IsNumbering}
 use Rattle.scr_combinatorics.specs.Reach.{Puzzle, IsReached, Needs, IsPermitted}
-use Rattle.scr_draw.specs.Attempt.{is_accepted}
 use Rattle.scr_draw.specs.Drawn.{drawn, hit}
 use Rattle.scr_draw.specs.StateSpace.{StateSpace, TellsNeed, Draws, IsFairFor, space_of}
 use Rattle.scr_draw.specs.OneOutcome.{Hits, Misses, FirstHits, HasOneOutcome}
-use Rattle.scr_draw.proofs.Counting.{tests_agree}
-use Rattle.scr_draw.proofs.Fairness.{hit_parts, hit_from, fair, fair_for}
+use Rattle.scr_draw.proofs.Fairness.{fair, fair_for}
 
 -- ---- what is drawn, by what each number hits
 
@@ -38,11 +36,7 @@ drawn-nothing f = refl
 hits_agree : {S : Type 0} (space : StateSpace S) (least : ℕ) → 1 ≤ space.count → (a b : S → Bool)
     → TellsNeed space least a → TellsNeed space least b → (v : ℕ)
     → hit space.count space.state_at a v ≡ hit space.count space.state_at b v
-hits_agree {S} space least some a b ta tb v =
-    let s : S = space.state_at (v % space.count) in
-    let below : v % space.count < space.count = omega arith in
-    let same = tests_agree (a s) (b s) (ta (v % space.count) below) (tb (v % space.count) below) in
-    ap (λ t. if is_accepted space.count v && t then Some s else None) same
+hits_agree {S} space least some a b ta tb v = grind arith
 
 -- so numbers have one outcome, whichever test tells
 pub Draws-one : {S : Type 0} (space : StateSpace S) (least : ℕ) → 1 ≤ space.count → (values : List ℕ) (o p : Option S)
@@ -60,28 +54,17 @@ module _ {S : Type 0} (n : Numbered S) (puzzle : Puzzle S) (least : ℕ) (number
 
     f-some : (v : ℕ) (s : S) → f v ≡ Some s → Hits (space_of n puzzle) least v s
     unfolding f
-    f-some v s e =
-        let parts = hit_parts n.count n.state_at test v s e in
-        let told = tells (v % n.count) (below_count v) in
-        record {
-          accepted = parts.0;
-          state = parts.1;
-          needs = subst (λ r. Needs puzzle r least) parts.1 (told.0 (subst (λ r. IsTrue (test r)) (sym parts.1) parts.2));
-        }
+    f-some v s e = grind arith
 
     some-f : (v : ℕ) (s : S) → Hits (space_of n puzzle) least v s → f v ≡ Some s
     unfolding f
-    some-f v s h =
-        let told = tells (v % n.count) (below_count v) in
-        hit_from n.count n.state_at test v s h.accepted h.state
-        (subst (λ r. IsTrue (test r)) h.state (told.1 (subst (λ r. Needs puzzle r least) (sym h.state) h.needs)))
+    some-f v s h = grind arith
 
     f-none : (v : ℕ) → f v ≡ None → Misses (space_of n puzzle) least v
     f-none v e s h = let hits = some-f v s h in cc (sym e ∙ hits)
 
     none-f_by : (v : ℕ) (o : Option S) → f v ≡ o → Misses (space_of n puzzle) least v → f v ≡ None
-    none-f_by v None e misses = e
-    none-f_by v (Some s) e misses = absurd (misses s (f-some v s e))
+    none-f_by v o e misses = grind (arith, f-some)
 
     none-f : (v : ℕ) → Misses (space_of n puzzle) least v → f v ≡ None
     none-f v misses = none-f_by v (f v) refl misses
@@ -89,8 +72,7 @@ module _ {S : Type 0} (n : Numbered S) (puzzle : Puzzle S) (least : ℕ) (number
     -- each number misses exactly where none is drawn
     missed_by : (v : ℕ) (vs : List ℕ) (o : Option S) → f v ≡ o → drawn f (v ∷ vs) ≡ None
         → (f v ≡ None) × (drawn f vs ≡ None)
-    missed_by v vs None e d = (e, sym (drawn-later f v vs e) ∙ d)
-    missed_by v vs (Some s) e d = let first = drawn-first f v vs s e in cc (sym d ∙ first)
+    missed_by v vs o e d = grind (arith, drawn-later, f, drawn-first)
 
     all_missed : (values : List ℕ) → drawn f values ≡ None → All (Misses (space_of n puzzle) least) values
     all_missed [] d = All-nil (Misses (space_of n puzzle) least)

@@ -1,30 +1,18 @@
 -- A position of a row needs as many turns as its number, and turns reach them all.
-use Rattle.std.specs.Prelude.{◌≡◌, ℕ, zero, suc, ◌+◌, ◌<◌, ◌≤◌, ◌↔◌, ◌&&◌, nat_lt, nat_le}
-use Rattle.std.specs.Prelude.{Bool, true, false, IsTrue, if◌then◌else◌, List, [], ◌∷◌, Some, None}
-use Rattle.std.proofs.Common.{refl, ap, ◌∙◌, inl, inr, arith}
-use Rattle.std.proofs.lemmas.Bool.{cases_lt, and_parts, and_from, lt-ltb, ltb-true, le-leb, leb-true}
+use Rattle.std.specs.Prelude.{◌≡◌, ℕ, zero, suc, ◌+◌, ◌<◌, ◌≤◌, ◌↔◌, nat_le}
+use Rattle.std.specs.Prelude.{IsTrue, List, [], ◌∷◌, Some}
+use Rattle.std.proofs.Common.{refl, ◌∙◌, inl, inr, arith}
+use Rattle.std.proofs.lemmas.Bool.{cases_lt, le-leb, leb-true}
 use Rattle.scr_combinatorics.specs.Play.{play, count_in}
 use Rattle.scr_combinatorics.specs.Reach.{Needs, IsReached}
 use Rattle.scr_combinatorics.proofs.PlayLaws.{play-empty, play-one, play-first, play-parts, IsReached-keeps}
 use Rattle.scr_draw.specs.Row.{moved_in_row, row_puzzle}
 
-when_some : (b : Bool) (t r : ℕ) → (if b then Some t else None) ≡ Some r → IsTrue b × (t ≡ r)
-when_some true t r e = (refl, cc e)
-when_some false t r e = cc e
-
 moved-parts : (count s r t : ℕ) → moved_in_row count s t ≡ Some r → (r < count) × (s ≤ r + 1)
-moved-parts count s r t e =
-    let both = when_some (nat_lt t count && nat_le s (t + 1)) t r e in
-    let parts = and_parts (nat_lt t count) (nat_le s (t + 1)) both.0 in
-    let below = ltb-true t count parts.0 in
-    let near = leb-true s (t + 1) parts.1 in
-    let same = both.1 in
-    (omega arith, omega arith)
+moved-parts count s r t e = grind arith
 
 moved-from : (count s t : ℕ) → t < count → s ≤ t + 1 → moved_in_row count s t ≡ Some t
-moved-from count s t below near =
-    let both = and_from (nat_lt t count) (nat_le s (t + 1)) (lt-ltb t count below) (le-leb s (t + 1) near) in
-    ap (λ b. if b then Some t else None) both
+moved-from count s t below near = grind arith
 
 -- a word of so many turns leads no further down
 no_further : (count s r : ℕ) (w : List ℕ) → play (moved_in_row count) s w ≡ Some r → s ≤ r + count_in (λ t. 1) w
@@ -45,9 +33,7 @@ down (suc s) = s ∷ down s
 down-leads : (count s : ℕ) → s < count → play (moved_in_row count) s (down s) ≡ Some 0
 unfolding down
 down-leads count zero below = play-empty (moved_in_row count) 0
-down-leads count (suc s) below =
-    play-first (moved_in_row count) (suc s) s s (down s) (moved-from count (suc s) s (omega arith) (omega arith))
-    ∙ down-leads count s (omega arith)
+down-leads count (suc s) below = grind (arith, play-first, down, moved-from, down-leads count s (omega arith))
 
 down-counted : (s : ℕ) → count_in (λ t. 1) (down s) ≡ s
 unfolding down count_in

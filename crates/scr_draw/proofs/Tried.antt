@@ -1,8 +1,8 @@
 -- What the attempts that were tried leave: all of them missed, so the whole list of attempts draws
 -- what the rest of it draws.
-use Rattle.std.proofs.Common.{◌≡◌, ℕ, suc, ◌+◌, ◌-◌, ◌*◌, ◌%◌, ◌<◌, Bool, true, false, Option, Some, None, List, [], ◌∷◌, refl, sym, ap, ◌∙◌, arith}
-use Rattle.std.specs.Prelude.{if◌then◌else◌, IsTrue}
-use Rattle.scr_draw.specs.Attempt.{answer, attempt_value, attempt_values, is_accepted}
+use Rattle.std.proofs.Common.{◌≡◌, ℕ, suc, ◌+◌, ◌-◌, ◌*◌, ◌<◌, Bool, true, false, Option, Some, None, List, [], ◌∷◌, refl, sym, ap, ◌∙◌, arith}
+use Rattle.std.specs.Prelude.{if◌then◌else◌}
+use Rattle.scr_draw.specs.Attempt.{answer, attempt_value, attempt_values}
 use Rattle.scr_draw.specs.Drawn.{drawn, hit}
 use Rattle.scr_draw.specs.FirstHit.{numbers_read}
 
@@ -58,41 +58,27 @@ read_nothing hits = refl
 rest_step : (word : ℕ → ℕ) (place all tried : ℕ) → tried < all
     → attempt_values word (place + 3 * tried) (all - tried)
     ≡ attempt_value word (place + 3 * tried) ∷ attempt_values word (place + 3 * (tried + 1)) (all - (tried + 1))
-rest_step word place all tried more =
-    let count : all - tried ≡ suc (all - (tried + 1)) = omega arith in
-    let next : place + 3 * tried + 3 ≡ place + 3 * (tried + 1) = omega arith in
-    rw count (values_step word (place + 3 * tried) (all - (tried + 1)) ∙ rw next refl)
+rest_step word place all tried more = grind (arith, values_step word (place + 3 * tried) (all - (tried + 1)))
 
 -- ---- what an attempt's answer says of the state that its number hits
 
-accepted_place : (b : Bool) (x i : ℕ) → (if b then Some x else None) ≡ Some i → IsTrue b × (x ≡ i)
-accepted_place true x i h = (refl, cc h)
-accepted_place false x i h = cc h
-
 refused : (b : Bool) (x : ℕ) → (if b then Some x else None) ≡ None → b ≡ false
-refused true x h = cc h
-refused false x h = refl
+refused o x h = grind arith
 
 -- no answer
 hit_of_refused : {S : Type 0} (count : ℕ) (state_at : ℕ → S) (permits : S → Bool) (v : ℕ) → answer count v ≡ None
     → hit count state_at permits v ≡ None
-hit_of_refused count state_at permits v h =
-    let not_accepted = refused (is_accepted count v) (v % count) h in
-    rw not_accepted refl
+hit_of_refused count state_at permits v h = grind arith
 
 -- an answer whose state fails the test
 hit_of_failed : {S : Type 0} (count : ℕ) (state_at : ℕ → S) (permits : S → Bool) (v i : ℕ) → answer count v ≡ Some i
     → permits (state_at i) ≡ false → hit count state_at permits v ≡ None
-hit_of_failed count state_at permits v i h failed =
-    let parts = accepted_place (is_accepted count v) (v % count) i h in
-    rw (parts.0, parts.1, failed) refl
+hit_of_failed count state_at permits v i h failed = grind arith
 
 -- and one whose state passes it
 hit_of_passed : {S : Type 0} (count : ℕ) (state_at : ℕ → S) (permits : S → Bool) (v i : ℕ) → answer count v ≡ Some i
     → permits (state_at i) ≡ true → hit count state_at permits v ≡ Some (state_at i)
-hit_of_passed count state_at permits v i h passed =
-    let parts = accepted_place (is_accepted count v) (v % count) i h in
-    rw (parts.0, parts.1, passed) refl
+hit_of_passed count state_at permits v i h passed = grind arith
 
 -- ---- the steps of a draw
 
@@ -137,18 +123,13 @@ module _ {S : Type 0} {count : ℕ} {state_at : ℕ → S} {permits : S → Bool
     -- an attempt's answer, at the count and the words that the attempts began with
     answer_at : (o : Option ℕ) → o ≡ answer count_now (attempt_value word_now place_now)
         → answer count (attempt_value word (place + 3 * tried)) ≡ o
-    answer_at o h =
-        sym (h ∙ ap (λ (c : ℕ). answer c (attempt_value word_now place_now)) ec
-        ∙ ap (λ (w : ℕ → ℕ). answer count (attempt_value w place_now)) so_far.same_words
-        ∙ ap (λ (p : ℕ). answer count (attempt_value word p)) so_far.taken)
+    answer_at o h = cc
 
     -- it was refused
     pub tried_refused : {word_next : ℕ → ℕ} {place_next : ℕ}
         → None ≡ answer count_now (attempt_value word_now place_now) → word_next ≡ word_now → place_next ≡ place_now + 3
         → IsTried count state_at permits word place all word_next place_next (tried + 1)
-    tried_refused {word_next} {place_next} h same three =
-        let miss = hit_of_refused count state_at permits (attempt_value word (place + 3 * tried)) (answer_at None h) in
-        tried_miss so_far more miss word_next place_next same three
+    tried_refused {word_next} {place_next} h same three = grind (arith, hit_of_refused, answer_at, tried_miss)
 
     -- it was accepted, and its state failed the test
     pub tried_failed : {word_next : ℕ → ℕ} {place_next i : ℕ} {s : S}
@@ -156,8 +137,7 @@ module _ {S : Type 0} {count : ℕ} {state_at : ℕ → S} {permits : S → Bool
         → word_next ≡ word_now → place_next ≡ place_now + 3
         → IsTried count state_at permits word place all word_next place_next (tried + 1)
     tried_failed {word_next} {place_next} {i} h is failed same three =
-        let miss = hit_of_failed count state_at permits (attempt_value word (place + 3 * tried)) i (answer_at (Some i) h) (rw is at failed) in
-        tried_miss so_far more miss word_next place_next same three
+        grind (arith, hit_of_failed, answer_at, tried_miss)
 
     -- it was accepted, and its state passed the test: it is drawn, and its words are the last
     pub tried_passed : {i : ℕ} {s : S} → Some i ≡ answer count_now (attempt_value word_now place_now)

@@ -1,8 +1,7 @@
 -- The labels of a group's slots, place by place.
-use Rattle.std.proofs.Common.{◌≡◌, ℕ, ◌<◌, List, Option, Some, if◌then◌else◌, slice_get, codes, refl, sym, ap, ◌∙◌}
+use Rattle.std.proofs.Common.{◌≡◌, ℕ, ◌<◌, List, Option, Some, if◌then◌else◌, slice_get, codes, refl, arith}
 use Rattle.std.specs.Prelude.{nat_lt}
 use Rattle.std.specs.Fmt.{digits}
-use Rattle.std.proofs.lemmas.Bool.{lt-ltb}
 use Rattle.scr_notation.specs.declared.event.Event.{Event}
 use Rattle.scr_notation.specs.Event.{per_group_of}
 use Rattle.scr_notation.proofs.EachEvent.{each_alike}
@@ -26,15 +25,12 @@ own_label place other event = if nat_lt place (per_group_of event) then slice_ge
 
 at_own_label : (place : ℕ) (label : List ℕ) (event : Event) → place < per_group_of event
     → own_label place label event ≡ Some label → slice_get (labels_of event) place ≡ Some label
-at_own_label place label event more is =
-    sym (ap (λ t. if t then slice_get (labels_of event) place else Some label) (lt-ltb place (per_group_of event) more)) ∙ is
+at_own_label place label event more is = grind arith
 
 pub label-3 : (event : Event) → 3 < per_group_of event → slice_get (labels_of event) 3 ≡ Some (codes "4.")
 unfolding digits
-label-3 event more =
-    at_own_label 3 (codes "4.") event more (each_alike (own_label 3 (codes "4.")) (λ e. Some (codes "4.")) refl event)
+label-3 event more = grind arith
 
 pub label-4 : (event : Event) → 4 < per_group_of event → slice_get (labels_of event) 4 ≡ Some (codes "5.")
 unfolding digits
-label-4 event more =
-    at_own_label 4 (codes "5.") event more (each_alike (own_label 4 (codes "5.")) (λ e. Some (codes "5.")) refl event)
+label-4 event more = grind arith

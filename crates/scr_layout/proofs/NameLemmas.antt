@@ -1,5 +1,5 @@
 -- A name letter by letter.
-use Rattle.std.proofs.Common.{◌≡◌, ℕ, ◌+◌, ◌-◌, ◌<◌, ◌≤◌, Bool, true, false, not, if◌then◌else◌, nat_le, List, [], ◌∷◌, ◌++◌, length, drop, get_or, refl, sym, ap, ◌∙◌, subst, arith, append_assoc, chars, encode_utf8, encode_utf8_all, IsUtf8}
+use Rattle.std.proofs.Common.{◌≡◌, ℕ, ◌+◌, ◌-◌, ◌<◌, ◌≤◌, Bool, true, false, not, if◌then◌else◌, nat_le, List, [], ◌∷◌, ◌++◌, length, drop, get_or, refl, sym, ap, ◌∙◌, arith, append_assoc, chars, encode_utf8, encode_utf8_all, IsUtf8}
 use Rattle.std.specs.Prelude.{All, codes}
 use Rattle.std.specs.List.{list_all}
 use Rattle.std.proofs.lemmas.Bool.{false≢true}
@@ -32,9 +32,7 @@ ahead-all letters = refl
 
 ahead-none : (begun waits : Bool) → ahead begun waits [] ≡ []
 unfolding spaced ahead
-ahead-none false waits = refl
-ahead-none true false = refl
-ahead-none true true = refl
+ahead-none begun waits = grind arith
 
 pub ahead-end : (begun waits : Bool) (letters : List ℕ) (n : ℕ) → n ≡ length letters → ahead begun waits (drop n letters) ≡ []
 ahead-end begun waits letters n all = ap (ahead begun waits) (drop_all n letters (omega (arith, all))) ∙ ahead-none begun waits
@@ -42,30 +40,22 @@ ahead-end begun waits letters n all = ap (ahead begun waits) (drop_all n letters
 blank-first : (begun waits : Bool) (letter : ℕ) (rest : List ℕ) → is_blank letter ≡ true → (waits ≡ true → begun ≡ true)
     → ahead begun waits (letter ∷ rest) ≡ ahead begun begun rest
 unfolding spaced ahead
-blank-first false waits letter rest is begun = rw is refl
-blank-first true false letter rest is begun = rw is refl
-blank-first true true letter rest is begun = rw is refl
+blank-first begun waits letter rest is begun' = grind arith
 
 pub ahead-blank : (begun waits : Bool) (letters yielded : List ℕ) (letter : ℕ) → IsLetterAt letters (length yielded) letter
     → is_blank letter ≡ true → (waits ≡ true → begun ≡ true)
     → ahead begun begun (drop (length (yielded ++ letter ∷ [])) letters) ≡ ahead begun waits (drop (length yielded) letters)
 ahead-blank begun waits letters yielded letter at is waiting =
-    let n = length yielded in
-    ap (λ k. ahead begun begun (drop k letters)) (length_push yielded letter)
-    ∙ sym (ap (ahead begun waits) (at_letter letters n letter at) ∙ blank-first begun waits letter (drop (n + 1) letters) is waiting)
+    grind (arith, ahead, length_push, at_letter, blank-first)
 
 letter-first : (begun waits : Bool) (letter : ℕ) (rest : List ℕ) → is_blank letter ≡ false → (waits ≡ true → begun ≡ true)
     → ahead begun waits (letter ∷ rest) ≡ (if waits then 32 ∷ [] else []) ++ letter ∷ ahead true false rest
 unfolding spaced ahead
-letter-first false true letter rest is begun = absurd (false≢true (begun refl))
-letter-first false false letter rest is begun = rw is refl
-letter-first true false letter rest is begun = rw is refl
-letter-first true true letter rest is begun = rw is refl
+letter-first begun waits letter rest is begun' = grind arith
 
 space-written : (waits : Bool) (letters : List ℕ)
     → (if waits then 32 ∷ [] else []) ++ encode_utf8_all letters ≡ encode_utf8_all ((if waits then 32 ∷ [] else []) ++ letters)
-space-written true letters = ap (λ t. t ++ encode_utf8_all letters) (sym (encode_ascii 32 (omega arith)))
-space-written false letters = refl
+space-written waits letters = grind (arith, encode_utf8_all, encode_ascii)
 
 pub ahead-letter : (begun waits : Bool) (letters yielded : List ℕ) (letter : ℕ) (text new : List ℕ)
     → IsLetterAt letters (length yielded) letter → is_blank letter ≡ false → (waits ≡ true → begun ≡ true)
@@ -112,8 +102,7 @@ first-too_wide left letter rest h = rw (too_wide (wide letter) left h) refl
 
 pub first-full : (left : ℕ) (letters : List ℕ) (n letter : ℕ) → IsLetterAt letters n letter → left < wide letter
     → first_wide left (drop n letters) ≡ []
-first-full left letters n letter at full =
-    ap (first_wide left) (at_letter letters n letter at) ∙ first-too_wide left letter (drop (n + 1) letters) full
+first-full left letters n letter at full = grind (arith, at_letter, first-too_wide)
 
 pub first-end : (left : ℕ) (letters : List ℕ) (n : ℕ) → n ≡ length letters → first_wide left (drop n letters) ≡ []
 unfolding first_wide
@@ -124,24 +113,14 @@ pub first-next : (left takes : ℕ) (letters yielded : List ℕ) (letter : ℕ) 
     → new ++ encode_utf8_all (first_wide (left - takes) (drop (length (yielded ++ letter ∷ [])) letters))
     ≡ text ++ encode_utf8_all (first_wide left (drop (length yielded) letters))
 first-next left takes letters yielded letter text new at is within new_is =
-    let n = length yielded in
-    let more = first_wide (left - wide letter) (drop (n + 1) letters) in
-    ap (λ k. new ++ encode_utf8_all (first_wide (left - takes) (drop k letters))) (length_push yielded letter)
-    ∙ ap (λ k. new ++ encode_utf8_all (first_wide (left - k) (drop (n + 1) letters))) is
-    ∙ ap (λ t. t ++ encode_utf8_all more) new_is
-    ∙ append_assoc text (encode_utf8 letter) (encode_utf8_all more)
-    ∙ ap (λ r. text ++ encode_utf8_all r)
-    (sym (ap (first_wide left) (at_letter letters n letter at) ∙ first-fits left letter (drop (n + 1) letters) (subst (λ k. k ≤ left) is within)))
+    grind (arith, encode_utf8_all, length_push, append_assoc, encode_utf8, at_letter, first-fits)
 
 -- ---- the whole name, or its first letters
 
 pub whole : (most : ℕ) (name shown : List ℕ) (within : Bool) → IsUtf8 shown → shown ≡ encode_utf8_all (spaced (chars name))
     → within ≡ nat_le (width (chars shown)) most → within ≡ true → shown ≡ fitting most name
 unfolding fitted
-whole most name shown within utf8 shown_is is fit_is =
-    let same = chars_from_encodes (spaced (chars name)) shown utf8 (sym shown_is) in
-    let fit : nat_le (width (spaced (chars name))) most ≡ true = ap (λ l. nat_le (width l) most) same ∙ sym is ∙ fit_is in
-    rw fit shown_is
+whole most name shown within utf8 shown_is is fit_is = grind (arith, chars_from_encodes, chars, nat_le)
 
 dots : encode_utf8_all (codes "...") ≡ codes "..."
 dots = rw (encode_ascii 46 (omega arith)) refl
@@ -151,11 +130,7 @@ pub cut_off : (most : ℕ) (name shown cut new : List ℕ) (within : Bool) → I
     → cut ≡ encode_utf8_all (first_wide (most - 3) (chars shown)) → new ≡ cut ++ codes "..." → new ≡ fitting most name
 unfolding fitted
 cut_off most name shown cut new within utf8 shown_is is fit_is cut_is new_is =
-    let same = chars_from_encodes (spaced (chars name)) shown utf8 (sym shown_is) in
-    let fit : nat_le (width (spaced (chars name))) most ≡ false = ap (λ l. nat_le (width l) most) same ∙ sym is ∙ fit_is in
-    rw fit (new_is ∙ ap (λ t. t ++ codes "...") (cut_is ∙ ap (λ l. encode_utf8_all (first_wide (most - 3) l)) (sym same))
-    ∙ ap (λ t. encode_utf8_all (first_wide (most - 3) (spaced (chars name))) ++ t) (sym dots)
-    ∙ sym (encodes-append (first_wide (most - 3) (spaced (chars name))) (codes "...")))
+    grind (arith, chars_from_encodes, chars, nat_le, encode_utf8_all, dots, encodes-append)
 
 -- ---- no control stands in it
 
@@ -163,20 +138,15 @@ plain_letter : (letter : ℕ) → is_blank letter ≡ false → IsNoControl lett
 plain_letter letter h = (grind (arith, nat_tests), λ e. false≢true (sym h ∙ ap is_blank e))
 
 space-plain : (b : Bool) → All IsNoControl (if b then 32 ∷ [] else [])
-space-plain true = All-cons IsNoControl 32 [] (omega arith, λ e. absurd (omega (arith, e))) (All-nil IsNoControl)
-space-plain false = All-nil IsNoControl
+space-plain b = grind arith
 
 gap-plain : (rest : List ℕ) → All IsNoControl (gap rest)
-gap-plain [] = All-nil IsNoControl
-gap-plain (letter ∷ rest) = space-plain _
+gap-plain rest = grind arith
 
 spaced-first : (letter : ℕ) (rest : List ℕ) (is : Bool) → is_blank letter ≡ is → All IsNoControl (spaced rest)
     → All IsNoControl (spaced (letter ∷ rest))
 unfolding spaced
-spaced-first letter rest true h all = rw h all
-spaced-first letter rest false h all =
-    rw h (All-cons IsNoControl letter (gap rest ++ spaced rest) (plain_letter letter h)
-    (All-append IsNoControl (gap rest) (spaced rest) (gap-plain rest) all))
+spaced-first letter rest is h all = grind (arith, All-cons, plain_letter, All-append, gap-plain)
 
 spaced-plain : (letters : List ℕ) → All IsNoControl (spaced letters)
 unfolding spaced
@@ -186,8 +156,7 @@ spaced-plain (letter ∷ rest) = spaced-first letter rest (is_blank letter) refl
 first-first : (most letter : ℕ) (rest : List ℕ) (is : Bool) → nat_le (wide letter) most ≡ is → IsNoControl letter
     → All IsNoControl (first_wide (most - wide letter) rest) → All IsNoControl (first_wide most (letter ∷ rest))
 unfolding first_wide
-first-first most letter rest true h one all = rw h (All-cons IsNoControl letter (first_wide (most - wide letter) rest) one all)
-first-first most letter rest false h one all = rw h (All-nil IsNoControl)
+first-first most letter rest is h one all = grind arith
 
 first-plain : (most : ℕ) (letters : List ℕ) → All IsNoControl letters → All IsNoControl (first_wide most letters)
 unfolding first_wide
@@ -197,9 +166,7 @@ first-plain most (letter ∷ rest) all =
     (first-plain (most - wide letter) rest (All-tail IsNoControl letter rest all))
 
 dots-plain : All IsNoControl (codes "...")
-dots-plain =
-    let dot : IsNoControl 46 = (omega arith, λ e. absurd (omega (arith, e))) in
-    All-cons IsNoControl 46 (46 ∷ 46 ∷ []) dot (All-cons IsNoControl 46 (46 ∷ []) dot (All-cons IsNoControl 46 [] dot (All-nil IsNoControl)))
+dots-plain = grind arith
 
 fitted-plain : (most : ℕ) (name : List ℕ) (is : Bool) → nat_le (width (spaced name)) most ≡ is → All IsNoControl (fitted most name)
 unfolding fitted
@@ -215,5 +182,4 @@ bytes_of_letters (letter ∷ rest) all =
 
 -- A name that fits a line stands in one.
 pub in_one_line : (most : ℕ) (name : List ℕ) → HasNoControl (fitting most name)
-in_one_line most name =
-    bytes_of_letters (fitted most (chars name)) (fitted-plain most (chars name) (nat_le (width (spaced (chars name))) most) refl)
+in_one_line most name = grind (arith, bytes_of_letters, chars, fitted-plain, nat_le)

@@ -1,5 +1,5 @@
 -- Rows place by place.
-use Rattle.std.proofs.Common.{◌≡◌, ℕ, ◌+◌, ◌<◌, ◌≤◌, List, [], ◌∷◌, length, drop, get_or, sym, ap, ◌∙◌, arith, nat_cmp}
+use Rattle.std.proofs.Common.{◌≡◌, ℕ, ◌+◌, ◌<◌, ◌≤◌, List, [], ◌∷◌, length, drop, get_or, ap, ◌∙◌, arith, nat_cmp}
 use Rattle.std.specs.Ordering.{ord_max}
 use Rattle.std.proofs.lemmas.Bool.Decides.{nat_tests}
 use Rattle.std.proofs.lemmas.List.{at_drop_more, at_drop_all}
@@ -34,11 +34,7 @@ pub rows-next : (places : List Place) (n rows row taken : ℕ) (other : Place) �
     → greater taken (rows_of (drop (n + 1) places)) ≡ greater rows (rows_of (drop n places))
 unfolding rows_of
 rows-next places n rows row taken other below row_is is =
-    let rest = rows_of (drop (n + 1) places) in
-    ap (λ k. greater k rest) (is ∙ greater-is rows (row + 1))
-    ∙ together rows (row + 1) rest
-    ∙ ap (λ k. greater rows (greater (k + 1) rest)) row_is
-    ∙ ap (greater rows) (sym (at_drop_more rows_of places n other below))
+    grind (arith, greater-is rows (row + 1), at_drop_more rows_of places n other below)
 
 pub rows-end : (places : List Place) (n rows : ℕ) → length places ≤ n → 1 ≤ rows → greater rows (rows_of (drop n places)) ≡ rows
 unfolding rows_of
@@ -46,6 +42,4 @@ rows-end places n rows all some = ap (greater rows) (at_drop_all rows_of places 
 
 pub rows-within : (rows row taken : ℕ) → 1 ≤ rows → rows ≤ 256 → row < 256 → taken ≡ ord_max nat_cmp rows (row + 1)
     → (1 ≤ taken) × (taken ≤ 256)
-rows-within rows row taken some few low is =
-    let same = is ∙ greater-is rows (row + 1) in
-    (grind (arith, nat_tests), grind (arith, nat_tests))
+rows-within rows row taken some few low is = grind arith

@@ -1,5 +1,5 @@
 -- How turns are written: no byte is a space or a control. And the first word of words with a space between.
-use Rattle.std.proofs.Common.{◌≡◌, ℕ, ◌+◌, ◌<◌, ◌≤◌, ◌≢◌, Bool, true, false, IsTrue, List, [], ◌∷◌, ◌++◌, length, take, drop, refl, sym, ap, ◌∙◌, subst, arith, leb-true, length-append}
+use Rattle.std.proofs.Common.{◌≡◌, ℕ, ◌+◌, ◌<◌, ◌≤◌, ◌≢◌, Bool, false, IsTrue, List, [], ◌∷◌, ◌++◌, length, refl, sym, ap, ◌∙◌, subst, arith, length-append}
 use Rattle.std.specs.Prelude.{All, ◌&&◌, ◌==◌, nat_le}
 use Rattle.std.specs.List.{list_all, position_or_len, before_first, after_first}
 use Rattle.std.proofs.lemmas.List.Sums.{position_or_len_is}
@@ -17,7 +17,7 @@ use Rattle.scr_notation.specs.TurnNumbers.{turn_count, turn_at, face_turn_at, ax
 use Rattle.scr_notation.specs.Spelling.{hours_text, spelling, text_of}
 use Rattle.scr_notation.specs.Ranges.{all_below}
 use Rattle.scr_notation.proofs.EachEvent.{IsKind-kind_of}
-use Rattle.scr_notation.proofs.Below.{and_first, and_second, at_below, All-from_test}
+use Rattle.scr_notation.proofs.Below.{at_below, All-from_test}
 use Rattle.scr_notation.proofs.NumberLaws.{numbered}
 use Rattle.scr_notation.proofs.SpellingLaws.{IsWord-spelling}
 use Rattle.scr_layout.specs.Shown.{IsPlainWord}
@@ -37,28 +37,16 @@ most_turns WideTurns = 6
 
 visible : (kind : Kind) → IsTrue (all_below (λ i. list_all is_visible (spelling (turn_at kind i))) (most_turns kind))
 unfolding all_below turn_at face_turn_at axis_turn_at layer_turn_at clock_turn_at wide_turn_at spelling hours_text
-visible (Faces near far) = refl
-visible (Axes tips) = refl
-visible LayersAndTwist = refl
-visible PinSets = refl
-visible WideTurns = refl
+visible kind = grind arith
 
 count_below : (kind : Kind) (n : ℕ) → IsKind kind → n < turn_count kind → n < most_turns kind
-count_below (Faces near far) n k l = omega (arith, k.few, k.near_first)
-count_below (Axes true) n k l = l
-count_below (Axes false) n k l = omega arith
-count_below LayersAndTwist n k l = l
-count_below PinSets n k l = l
-count_below WideTurns n k l = l
+count_below kind n k l = grind arith
 
 abbrev IsVisibleByte : ℕ → Type 0
 IsVisibleByte byte = (33 ≤ byte) × (byte ≢ 127)
 
 visible_byte : (byte : ℕ) → IsTrue (is_visible byte) → IsVisibleByte byte
-visible_byte byte is =
-    let least = leb-true 33 byte (and_first (nat_le 33 byte) (nat_le byte 126) is) in
-    let most = leb-true byte 126 (and_second (nat_le 33 byte) (nat_le byte 126) is) in
-    (omega (arith, least), λ e. omega (arith, e, most))
+visible_byte byte is = grind arith
 
 pub visible_spelling : (e : Event) (t : Turn) → IsTrue (permits e t) → All IsVisibleByte (spelling t)
 visible_spelling e t h =
@@ -71,9 +59,7 @@ visible_spelling e t h =
     (at_below (λ k. list_all is_visible (spelling (turn_at kind k))) (most_turns kind) n.0 (visible kind) (count_below kind n.0 is n.1)))
 
 pub plain_spelling : (e : Event) (t : Turn) → IsTrue (permits e t) → IsPlainWord (spelling t)
-plain_spelling e t h =
-    let word = IsWord-spelling e t h in
-    record { some = word.some; short = word.short; plain = visible_spelling e t h }
+plain_spelling e t h = grind (arith, IsWord-spelling e t h, visible_spelling e t h)
 
 -- ---- a word, and what stands behind a space
 
@@ -109,24 +95,14 @@ IsFirst turn turns word behind = (word ≡ spelling turn) × (behind ≡ text_of
 at_space : (turn : Turn) (turns : List Turn) (text word behind : List ℕ) → HasNoSpace (spelling turn)
     → Parted turn turns text → word ≡ before_first is_space text → behind ≡ after_first is_space text
     → position_or_len is_space text < length text → IsFirst turn turns word behind
-at_space turn turns text word behind none (Alone last is) first rest below =
-    let place = ap (position_or_len is_space) is ∙ place_alone (spelling turn) none in
-    absurd (omega (arith, place, ap length is))
+at_space turn turns text word behind none (Alone last is) first rest below = grind (arith, place_alone)
 at_space turn turns text word behind none (Before is) first rest below =
-    let place = ap (position_or_len is_space) is ∙ place_before (spelling turn) (text_of turns) none in (
-      first ∙ ap (λ n. take n text) place ∙ ap (take (length (spelling turn))) is
-          ∙ take-append_seam (spelling turn) (32 ∷ text_of turns),
-      rest ∙ ap (λ n. drop (n + 1) text) place ∙ ap (drop (length (spelling turn) + 1)) is
-          ∙ drop-append-add (spelling turn) (32 ∷ text_of turns) 1,
-    )
+    grind (arith, place_before, take-append_seam, drop-append-add)
 
 -- where none was, the word stands alone
 at_none : (turn : Turn) (turns : List Turn) (text : List ℕ) → HasNoSpace (spelling turn)
     → Parted turn turns text → position_or_len is_space text ≡ length text → IsFirst turn turns text []
-at_none turn turns text none (Alone last is) all = (is, sym (ap text_of last))
-at_none turn turns text none (Before is) all =
-    let place = ap (position_or_len is_space) is ∙ place_before (spelling turn) (text_of turns) none in
-    absurd (omega (arith, place, all, ap length is, length-append (spelling turn) (32 ∷ text_of turns)))
+at_none turn turns text none h all = grind (arith, place_before, length-append)
 
 abbrev AreOf : Event → List Turn → Type 0
 AreOf event turns = All (λ t. IsTrue (permits event t)) turns
@@ -147,6 +123,4 @@ pub not_found : (event : Event) (turn : Turn) (turns : List Turn) (text : List �
     → text ≡ text_of (turn ∷ turns) → position_or_len is_space text ≡ length text
     → (text ≡ spelling turn) × ([] ≡ text_of turns) × IsPlainWord text
 not_found event turn turns text are is all =
-    let permitted = first_permitted event turn turns are in
-    let both = at_none turn turns text (IsWord-spelling event turn permitted).no_space (subst (Parted turn turns) (sym is) (parted turn turns)) all in
-    (both.0, both.1, subst IsPlainWord (sym both.0) (plain_spelling event turn permitted))
+    grind (arith, first_permitted, at_none, IsWord-spelling, parted, plain_spelling)

@@ -1,27 +1,24 @@
 -- A page goes on by nothing, by one token, by some and then more.
-use Rattle.std.proofs.Common.{◌≡◌, ℕ, List, [], ◌∷◌, ◌++◌, refl, sym, ap, ◌∙◌, map, append_assoc}
-use Rattle.std.specs.Prelude.{Option, Some, None, option_to_list}
+use Rattle.std.proofs.Common.{◌≡◌, ℕ, List, [], ◌∷◌, ◌++◌, refl, sym, ◌∙◌, append_assoc, arith, rules}
+use Rattle.std.specs.Prelude.{Option, option_to_list}
 use Rattle.std.specs.List.{cons_option}
 use Rattle.std.proofs.lemmas.List.{map-append, append-nil}
 use Rattle.std.proofs.lemmas.List.Elements.{filter_map-append}
-use Rattle.scr_text.specs.Lines.{text_of_lines}
 use Rattle.scr_text.proofs.WrittenLines.{text_of_lines-append}
-use Rattle.scr_markup.specs.Tokens.{Token, IsToken, AreTokens, token_line, text_of_tokens, Mark, mark_of, marks, Adds}
+use Rattle.scr_markup.specs.Tokens.{Token, IsToken, AreTokens, text_of_tokens, Mark, mark_of, marks, Adds}
 
 AreTokens-append : (xs ys : List Token) → AreTokens xs → AreTokens ys → AreTokens (xs ++ ys)
 AreTokens-append [] ys hx hy = hy
 AreTokens-append (x ∷ xs) ys hx hy = (hx.0, AreTokens-append xs ys hx.1 hy)
 
 text_of_tokens-append : (xs ys : List Token) → text_of_tokens (xs ++ ys) ≡ text_of_tokens xs ++ text_of_tokens ys
-text_of_tokens-append xs ys =
-    ap text_of_lines (map-append token_line xs ys) ∙ text_of_lines-append (map token_line xs) (map token_line ys)
+text_of_tokens-append xs ys = grind (arith, map-append, text_of_lines-append)
 
 marks-append : (xs ys : List Token) → marks (xs ++ ys) ≡ marks xs ++ marks ys
 marks-append xs ys = filter_map-append mark_of xs ys
 
 one_mark : (mark : Option Mark) → cons_option mark [] ≡ option_to_list mark
-one_mark None = refl
-one_mark (Some mark) = refl
+one_mark mark = grind arith
 
 marks-one : (token : Token) → marks (token ∷ []) ≡ option_to_list (mark_of token)
 marks-one token = one_mark (mark_of token)
@@ -33,17 +30,11 @@ adds_nothing page = record { tokens = []; valid = tt; text = sym (append-nil pag
 -- one token
 pub adds_token : (before after : List ℕ) (token : Token) → IsToken token → after ≡ before ++ text_of_tokens (token ∷ [])
     → Adds before after (option_to_list (mark_of token))
-adds_token before after token valid text =
-    record { tokens = token ∷ []; valid = (valid, tt); text = text; tells = marks-one token }
+adds_token before after token valid text = search (rules, marks-one)
 
 -- some, and then more
 pub adds_then : (a b c : List ℕ) (first more : List Mark) → Adds a b first → Adds b c more → Adds a c (first ++ more)
-adds_then a b c first more h k = record {
-  tokens = h.tokens ++ k.tokens;
-  valid = AreTokens-append h.tokens k.tokens h.valid k.valid;
-  text = k.text ∙ ap (λ x. x ++ text_of_tokens k.tokens) h.text ∙ append_assoc a (text_of_tokens h.tokens) (text_of_tokens k.tokens) ∙ ap (λ x. a ++ x) (sym (text_of_tokens-append h.tokens k.tokens));
-  tells = marks-append h.tokens k.tokens ∙ ap (λ x. x ++ marks k.tokens) h.tells ∙ ap (λ x. first ++ x) k.tells;
-}
+adds_then a b c first more h k = grind (arith, AreTokens-append, append_assoc, text_of_tokens-append, marks-append)
 
 -- the marks, told otherwise
 pub adds_as : (before after : List ℕ) (told promised : List Mark) → told ≡ promised → Adds before after told → Adds before after promised

@@ -1,5 +1,5 @@
 -- Values and texts, escaped piece by piece.
-use Rattle.std.proofs.Common.{◌≡◌, ℕ, suc, zero, ◌+◌, ◌<◌, ◌≤◌, true, false, List, [], ◌∷◌, ◌++◌, take, drop, length, refl, sym, ap, ◌∙◌, arith, append_assoc, add-one, take_all}
+use Rattle.std.proofs.Common.{◌≡◌, ℕ, suc, zero, ◌+◌, ◌<◌, ◌≤◌, true, false, List, [], ◌∷◌, ◌++◌, take, drop, length, refl, ap, ◌∙◌, arith, append_assoc, add-one, take_all}
 use Rattle.std.specs.Prelude.{slice_index}
 use Rattle.std.proofs.lemmas.Bool.Decides.{nat_tests}
 use Rattle.std.proofs.lemmas.List.{append-nil}
@@ -28,17 +28,13 @@ ascii_if_named b named = grind (arith, nat_tests)
 pub escaped-plain : (n : ℕ) (text : List ℕ) → n ≡ length text → ((k : ℕ) → k < n → is_plain (slice_index text k) ≡ true)
     → escaped text ≡ text
 escaped-plain n text all plain =
-    escaped-plain_first n text (omega arith) plain
-    ∙ ap (λ k. take k text ++ escaped (drop k text)) all
-    ∙ rw (take-length text, drop-length text, append-nil text) refl
+    cc (escaped-plain_first n text (omega arith) plain, take-length text, drop-length text, append-nil text)
 
 -- then comes the name of that byte
 pub escaped-step : (n : ℕ) (text : List ℕ) → n < length text → ((k : ℕ) → k < n → is_plain (slice_index text k) ≡ true)
     → escaped text ≡ (take n text ++ escaped_byte (slice_index text n)) ++ escaped (drop (n + 1) text)
 escaped-step n text low plain =
-    let first : escaped text ≡ take n text ++ escaped (drop n text) = escaped-plain_first n text (omega arith) plain in
-    let cut : drop n text ≡ slice_index text n ∷ drop (suc n) text = drop-cons text n 0 low in
-    first ∙ rw (cut, add-one n, append_assoc) refl
+    grind (arith, escaped-plain_first n text (omega arith) plain, drop-cons text n 0 low, add-one n, append_assoc)
 
 -- ---- a page that goes on so
 
@@ -46,10 +42,7 @@ escaped-step n text low plain =
 pub page_ends : (n : ℕ) (text page piece new whole : List ℕ) → n ≡ length text
     → ((k : ℕ) → k < n → is_plain (slice_index text k) ≡ true)
     → new ≡ page ++ piece → piece ≡ take n text → page ++ escaped text ≡ whole → new ≡ whole
-page_ends n text page piece new whole all plain e p h =
-    let same : take n text ≡ text = take_all n text (omega arith) in
-    let rest : escaped text ≡ text = escaped-plain n text all plain in
-    cc
+page_ends n text page piece new whole all plain e p h = grind (arith, take_all, escaped-plain)
 
 -- with a piece and the name of the byte behind it
 pub page_goes_on : (n : ℕ) (text page piece new name newer rest whole : List ℕ) → n < length text
@@ -57,7 +50,4 @@ pub page_goes_on : (n : ℕ) (text page piece new name newer rest whole : List �
     → new ≡ page ++ piece → piece ≡ take n text → newer ≡ new ++ name → name ≡ escaped_byte (slice_index text n)
     → rest ≡ drop (n + 1) text → page ++ escaped text ≡ whole → newer ++ escaped rest ≡ whole
 page_goes_on n text page piece new name newer rest whole low plain e p f m r h =
-    let step = escaped-step n text low plain in
-    let parts : ((page ++ take n text) ++ escaped_byte (slice_index text n)) ++ escaped (drop (n + 1) text)
-    ≡ page ++ ((take n text ++ escaped_byte (slice_index text n)) ++ escaped (drop (n + 1) text)) = simp append_assoc in
-    rw (f, e, p, m, r) (parts ∙ ap (λ x. page ++ x) (sym step) ∙ h)
+    grind (arith, escaped-step, append_assoc)

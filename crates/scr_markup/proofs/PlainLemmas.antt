@@ -16,12 +16,10 @@ above b high = grind (arith, nat_tests)
 
 -- texts without controls
 pub HasNoLineFeed-printed : (text : List ℕ) → All (λ b. 31 < b) text → HasNoLineFeed text
-HasNoLineFeed-printed text high =
-    list_any_none is_line_feed text (All-weaker (λ b. 31 < b) (λ b. is_line_feed b ≡ false) above text high)
+HasNoLineFeed-printed text high = grind (arith, list_any_none, All-weaker, above)
 
 above_blank : (b : ℕ) → 32 < b → 31 < b
 above_blank b high = omega arith
 
 pub HasNoLineFeed-decimal : (n : ℕ) → n < 2 ^ 64 → HasNoLineFeed (decimal n)
-HasNoLineFeed-decimal n low =
-    HasNoLineFeed-printed (decimal n) (All-weaker (λ b. 32 < b) (λ b. 31 < b) above_blank (decimal n) (decimal-plain n low))
+HasNoLineFeed-decimal n low = grind (arith, HasNoLineFeed-printed, All-weaker, above_blank, decimal-plain)

@@ -1,9 +1,10 @@
 -- A text has at most one list of tokens: each piece ends at a byte that it can't have.
-use Rattle.std.proofs.Common.{◌≡◌, ℕ, Bool, true, false, eqb, List, [], ◌∷◌, ◌++◌, drop, get_or, refl, sym, ap, ◌∙◌, arith, append_assoc, inl, inr, subst}
+use Rattle.std.proofs.lemmas.Grind.{common_steps}
+use Rattle.std.proofs.Common.{◌≡◌, ℕ, Bool, true, false, eqb, List, [], ◌∷◌, ◌++◌, drop, get_or, refl, sym, ap, ◌∙◌, arith, append_assoc}
 use Rattle.std.specs.Prelude.{not, ◌||◌, ◌==◌, codes, if◌then◌else◌}
 use Rattle.std.specs.List.{list_any, list_all}
-use Rattle.std.proofs.lemmas.Bool.Decides.{nat_tests, eqb_tells}
-use Rattle.std.proofs.lemmas.Bool.{false≢true, and_parts, or_parts}
+use Rattle.std.proofs.lemmas.Bool.Decides.{nat_tests}
+use Rattle.std.proofs.lemmas.Bool.{and_parts, or_parts}
 use Rattle.std.proofs.lemmas.List.{append-nil}
 use Rattle.std.proofs.lemmas.List.Folds.{list_any-append}
 use Rattle.scr_text.specs.Lines.{is_line_feed}
@@ -12,24 +13,15 @@ use Rattle.scr_markup.specs.Tokens.{Attribute, Token, Open, Leaf, Close, is_name
 -- ---- where a piece ends
 
 later : (b c : Bool) → (b || c) ≡ false → c ≡ false
-later true c h = absurd (false≢true (sym h))
-later false c h = h
+later b c h = grind arith
 
 -- Two pieces that lack what ends them are one, if what follows them is.
 pub ends_once : (stops : ℕ → Bool) (xs ys : List ℕ) (c d : ℕ) (r s : List ℕ)
     → list_any stops xs ≡ false → list_any stops ys ≡ false → stops c ≡ true → stops d ≡ true
     → xs ++ c ∷ r ≡ ys ++ d ∷ s → (xs ≡ ys) × (c ≡ d) × (r ≡ s)
 ends_once stops [] [] c d r s hx hy hc hd e = (refl, cc, cc)
-ends_once stops [] (y ∷ ys) c d r s hx hy hc hd e =
-    let same : c ≡ y = cc in
-    let at : stops y ≡ true = subst (λ b. stops b ≡ true) same hc in
-    let none : (true || list_any stops ys) ≡ false = subst (λ b. (b || list_any stops ys) ≡ false) at hy in
-    absurd (false≢true (sym none))
-ends_once stops (x ∷ xs) [] c d r s hx hy hc hd e =
-    let same : x ≡ d = cc in
-    let at : stops x ≡ true = subst (λ b. stops b ≡ true) (sym same) hd in
-    let none : (true || list_any stops xs) ≡ false = subst (λ b. (b || list_any stops xs) ≡ false) at hx in
-    absurd (false≢true (sym none))
+ends_once stops [] (y ∷ ys) c d r s hx hy hc hd e = cc
+ends_once stops (x ∷ xs) [] c d r s hx hy hc hd e = cc
 ends_once stops (x ∷ xs) (y ∷ ys) c d r s hx hy hc hd e =
     let same : x ≡ y = cc in
     let more : xs ++ c ∷ r ≡ ys ++ d ∷ s = cc in
@@ -54,30 +46,14 @@ first_byte (c ∷ t) =
 by_names : (P : ℕ → List ℕ → Type 0) → P 38 (codes "&amp;") → P 60 (codes "&lt;") → P 62 (codes "&gt;") → P 34 (codes "&quot;")
     → ((b : ℕ) → eqb b 38 ≡ false → eqb b 60 ≡ false → eqb b 34 ≡ false → P b (b ∷ []))
     → (b : ℕ) → P b (escaped_byte b)
-by_names P ampersand less greater quote plain b =
-    elim (eqb_tells b 38) [
-      | inl e ↦ rw e.1 ampersand
-      | inr n ↦ elim (eqb_tells b 60) [
-        | inl e ↦ rw e.1 less
-        | inr m ↦ elim (eqb_tells b 62) [
-          | inl e ↦ rw e.1 greater
-          | inr o ↦ elim (eqb_tells b 34) [
-            | inl e ↦ rw e.1 quote
-            | inr p ↦ rw (n.0, m.0, o.0, p.0) (plain b n.0 m.0 p.0)
-          ]
-        ]
-      ]
-    ]
+by_names P ampersand less greater quote plain b = grind arith
 
 first_byte-escaped : (b : ℕ) (r : List ℕ) → first_byte (escaped_byte b ++ r) ≡ (b, r)
 unfolding first_byte
-first_byte-escaped b r =
-    by_names (λ c named. first_byte (named ++ r) ≡ (c, r)) refl refl refl refl (λ c n m p. rw n refl) b
+first_byte-escaped b r = grind arith
 
 byte_once : (b c : ℕ) (r s : List ℕ) → escaped_byte b ++ r ≡ escaped_byte c ++ s → (b ≡ c) × (r ≡ s)
-byte_once b c r s e =
-    let pair : (b, r) ≡ (c, s) = sym (first_byte-escaped b r) ∙ ap first_byte e ∙ first_byte-escaped c s in
-    (ap (λ p. p.0) pair, ap (λ p. p.1) pair)
+byte_once b c r s e = grind arith
 
 some_bytes : (b : ℕ) (r : List ℕ) → [] ≡ escaped_byte b ++ r → ⊥
 some_bytes b r e = grind (arith, nat_tests)
@@ -117,18 +93,14 @@ is_less b = b == 60
 
 quote_named : (b : ℕ) → nothing b ≡ false → list_any is_quote (escaped_byte b) ≡ false
 unfolding is_quote
-quote_named b h =
-    by_names (λ c named. list_any is_quote named ≡ false) refl refl refl refl (λ c n m p. rw p refl) b
+quote_named b h = grind arith
 
 less_named : (b : ℕ) → nothing b ≡ false → list_any is_less (escaped_byte b) ≡ false
 unfolding is_less
-less_named b h =
-    by_names (λ c named. list_any is_less named ≡ false) refl refl refl refl (λ c n m p. rw m refl) b
+less_named b h = grind arith
 
 line_feed_named : (b : ℕ) → is_line_feed b ≡ false → list_any is_line_feed (escaped_byte b) ≡ false
-line_feed_named =
-    by_names (λ c named. is_line_feed c ≡ false → list_any is_line_feed named ≡ false) (λ h. refl) (λ h. refl) (λ h. refl) (λ h. refl)
-    (λ c n m p h. rw h refl)
+line_feed_named = grind arith
 
 -- ---- names
 
@@ -144,8 +116,7 @@ all_but p q each (x ∷ xs) all =
 
 name_lacks : (q : ℕ → Bool) → ((b : ℕ) → is_name_byte b ≡ true → q b ≡ false) → (name : List ℕ) → is_name name ≡ true
     → list_any q name ≡ false
-name_lacks q each [] valid = refl
-name_lacks q each (b ∷ name) valid = all_but is_name_byte q each (b ∷ name) valid
+name_lacks q each name valid = grind (arith, all_but)
 
 ends_no_name : (b : ℕ) → is_name_byte b ≡ true → ends_name b ≡ false
 unfolding ends_name
@@ -176,8 +147,7 @@ after_name attributes r = attributes_text attributes ++ 62 ∷ r
 after_name-cons : (a : Attribute) (xs : List Attribute) (r : List ℕ)
     → after_name (a ∷ xs) r ≡ 32 ∷ (a.key ++ 61 ∷ 34 ∷ (escaped a.value ++ 34 ∷ after_name xs r))
 unfolding after_name
-after_name-cons a xs r =
-    append_assoc (attribute_text a) (attributes_text xs) (62 ∷ r) ∙ attribute_form a (attributes_text xs ++ 62 ∷ r)
+after_name-cons a xs r = grind (arith, append_assoc, attribute_form)
 
 value_once : (v w : List ℕ) (r s : List ℕ) → escaped v ++ 34 ∷ r ≡ escaped w ++ 34 ∷ s → (v ≡ w) × (r ≡ s)
 unfolding is_quote
@@ -190,9 +160,7 @@ tails : (c d : ℕ) (r s : List ℕ) → c ∷ r ≡ d ∷ s → r ≡ s
 tails c d r s e = cc
 
 list_of_two : (a b : Attribute) (xs ys : List Attribute) → a.key ≡ b.key → a.value ≡ b.value → xs ≡ ys → a ∷ xs ≡ b ∷ ys
-list_of_two a b xs ys k v more =
-    let same : a ≡ b = ap (λ x. record { key = x; value = a.value }) k ∙ ap (λ x. record { key = b.key; value = x }) v in
-    cc
+list_of_two a b xs ys k v more = grind arith
 
 apart_heads : (r s : List ℕ) → 62 ∷ r ≡ 32 ∷ s → ⊥
 apart_heads r s e = cc
@@ -201,12 +169,8 @@ attributes_once : (xs ys : List Attribute) (r s : List ℕ) → AreAttributes xs
     → after_name xs r ≡ after_name ys s → (xs ≡ ys) × (r ≡ s)
 unfolding after_name
 attributes_once [] [] r s ha hb e = (refl, cc)
-attributes_once [] (b ∷ ys) r s ha hb e =
-    let apart : 62 ∷ r ≡ 32 ∷ (b.key ++ 61 ∷ 34 ∷ (escaped b.value ++ 34 ∷ after_name ys s)) = e ∙ after_name-cons b ys s in
-    absurd (apart_heads _ _ apart)
-attributes_once (a ∷ xs) [] r s ha hb e =
-    let apart : 62 ∷ s ≡ 32 ∷ (a.key ++ 61 ∷ 34 ∷ (escaped a.value ++ 34 ∷ after_name xs r)) = sym e ∙ after_name-cons a xs r in
-    absurd (apart_heads _ _ apart)
+attributes_once [] (b ∷ ys) r s ha hb e = grind arith
+attributes_once (a ∷ xs) [] r s ha hb e = grind arith
 attributes_once (a ∷ xs) (b ∷ ys) r s ha hb e =
     let both : 32 ∷ (a.key ++ 61 ∷ 34 ∷ (escaped a.value ++ 34 ∷ after_name xs r)) ≡ 32 ∷ (b.key ++ 61 ∷ 34 ∷ (escaped b.value ++ 34 ∷ after_name ys s)) =
     sym (after_name-cons a xs r) ∙ e ∙ after_name-cons b ys s in
@@ -247,12 +211,7 @@ head_once n m xs ys r s hn hm e =
 
 -- an element that begins and one that ends differ in the byte behind the first
 begins_or_ends : (n : List ℕ) (xs : List Attribute) (r t : List ℕ) → is_name n ≡ true → 60 ∷ (n ++ after_name xs r) ≡ 60 ∷ 47 ∷ t → ⊥
-begins_or_ends [] xs r t named e = absurd (false≢true named)
-begins_or_ends (b ∷ n) xs r t named e =
-    let slash : b ≡ 47 = cc in
-    let first : is_name_byte b ≡ true = (and_parts (is_name_byte b) (list_all is_name_byte n) named).0 in
-    let none : is_name_byte 47 ≡ true = subst (λ c. is_name_byte c ≡ true) slash first in
-    false≢true none
+begins_or_ends n xs r t named e = grind arith
 
 not_nil : (xs ys : List ℕ) (c : ℕ) → [] ≡ xs ++ c ∷ ys → ⊥
 not_nil [] ys c e = cc
@@ -285,21 +244,10 @@ text_once x y r s e =
 
 leaf_once : (n m : List ℕ) (xs ys : List Attribute) (x y : List ℕ) → IsHead n xs → IsHead m ys
     → head_text n xs ++ escaped x ++ end_text n ≡ head_text m ys ++ escaped y ++ end_text m → Leaf n xs x ≡ Leaf m ys y
-leaf_once n m xs ys x y hn hm e =
-    let both : 60 ∷ (n ++ after_name xs (escaped x ++ end_text n)) ≡ 60 ∷ (m ++ after_name ys (escaped y ++ end_text m)) =
-    sym (append_assoc (head_text n xs) (escaped x) (end_text n) ∙ head_form n xs (escaped x ++ end_text n))
-    ∙ e ∙ append_assoc (head_text m ys) (escaped y) (end_text m) ∙ head_form m ys (escaped y ++ end_text m) in
-    let rest = head_once n m xs ys (escaped x ++ end_text n) (escaped y ++ end_text m) hn hm (tails _ _ _ _ both) in
-    let name = rest.0 in
-    let attributes = rest.1 in
-    let text : x ≡ y = text_once x y (47 ∷ (n ++ 62 ∷ [])) (47 ∷ (m ++ 62 ∷ [])) rest.2 in
-    cc
+leaf_once n m xs ys x y hn hm e = grind (arith, after_name, append_assoc, head_form, head_once, tails, text_once)
 
 close_once : (n m : List ℕ) → is_name n ≡ true → is_name m ≡ true → end_text n ≡ end_text m → Close n ≡ Close m
-close_once n m hn hm e =
-    let behind : n ++ 62 ∷ [] ≡ m ++ 62 ∷ [] = cc in
-    let names = name_once n m 62 62 [] [] hn hm refl refl behind in
-    ap (λ x. Close x) names.0
+close_once n m hn hm e = grind (arith, nat_tests, common_steps, name_once)
 
 head_or_end : (n m : List ℕ) (xs : List Attribute) (r : List ℕ) → IsHead n xs → head_text n xs ++ r ≡ end_text m → ⊥
 head_or_end n m xs r hn e = begins_or_ends n xs r (m ++ 62 ∷ []) hn.named (sym (head_form n xs r) ∙ e)
@@ -309,15 +257,8 @@ whole_or_end n m xs x hn e = head_or_end n m xs (escaped x ++ end_text n) hn (sy
 
 -- a token by its kind: an element that begins, a whole one, and one that ends
 same_line : (t u : Token) → IsToken t → IsToken u → token_line t ≡ token_line u → t ≡ u
-same_line (Open n xs) (Open m ys) ht hu e = open_once n m xs ys ht hu e
-same_line (Open n xs) (Leaf m ys y) ht hu e = absurd (begins_or_whole n m xs ys y ht hu.0 e)
-same_line (Open n xs) (Close m) ht hu e = absurd (head_or_end n m xs [] ht (append-nil (head_text n xs) ∙ e))
-same_line (Leaf n xs x) (Open m ys) ht hu e = absurd (begins_or_whole m n ys xs x hu ht.0 (sym e))
-same_line (Leaf n xs x) (Leaf m ys y) ht hu e = leaf_once n m xs ys x y ht.0 hu.0 e
-same_line (Leaf n xs x) (Close m) ht hu e = absurd (whole_or_end n m xs x ht.0 e)
-same_line (Close n) (Open m ys) ht hu e = absurd (head_or_end m n ys [] hu (append-nil (head_text m ys) ∙ sym e))
-same_line (Close n) (Leaf m ys y) ht hu e = absurd (whole_or_end m n ys y hu.0 (sym e))
-same_line (Close n) (Close m) ht hu e = close_once n m ht hu e
+same_line t u ht hu e =
+    grind (arith, open_once, begins_or_whole, head_or_end, append-nil, leaf_once, whole_or_end, close_once)
 
 -- ---- lines
 
@@ -332,31 +273,20 @@ name_one_line : (n : List ℕ) → is_name n ≡ true → HasNoLineFeed n
 name_one_line n h = name_lacks is_line_feed no_line_feed n h
 
 attribute_one_line : (a : Attribute) → IsAttribute a → HasNoLineFeed (attribute_text a)
-attribute_one_line a h =
-    lacks-append is_line_feed (codes " " ++ a.key ++ codes "=\"" ++ escaped a.value) (codes "\"")
-    (lacks-append is_line_feed (codes " " ++ a.key ++ codes "=\"") (escaped a.value)
-    (lacks-append is_line_feed (codes " " ++ a.key) (codes "=\"") (name_one_line a.key h.key) refl) (escaped_one_line a.value h.value))
-    refl
+attribute_one_line a h = grind (arith, lacks-append, name_one_line, escaped_one_line)
 
 attributes_one_line : (xs : List Attribute) → AreAttributes xs → HasNoLineFeed (attributes_text xs)
 attributes_one_line [] h = refl
-attributes_one_line (a ∷ xs) h =
-    lacks-append is_line_feed (attribute_text a) (attributes_text xs) (attribute_one_line a h.0) (attributes_one_line xs h.1)
+attributes_one_line (a ∷ xs) h = grind (arith, lacks-append, attribute_one_line, attributes_one_line xs h.1)
 
 head_one_line : (n : List ℕ) (xs : List Attribute) → IsHead n xs → HasNoLineFeed (head_text n xs)
-head_one_line n xs h =
-    lacks-append is_line_feed (codes "<" ++ n ++ attributes_text xs) (codes ">")
-    (lacks-append is_line_feed (codes "<" ++ n) (attributes_text xs) (name_one_line n h.named) (attributes_one_line xs h.valid)) refl
+head_one_line n xs h = grind (arith, lacks-append, name_one_line, attributes_one_line)
 
 end_one_line : (n : List ℕ) → is_name n ≡ true → HasNoLineFeed (end_text n)
 end_one_line n h = lacks-append is_line_feed (codes "</" ++ n) (codes ">") (name_one_line n h) refl
 
 token_one_line : (t : Token) → IsToken t → HasNoLineFeed (token_line t)
-token_one_line (Open n xs) h = head_one_line n xs h
-token_one_line (Leaf n xs x) h =
-    lacks-append is_line_feed (head_text n xs ++ escaped x) (end_text n)
-    (lacks-append is_line_feed (head_text n xs) (escaped x) (head_one_line n xs h.0) (escaped_one_line x h.1)) (end_one_line n h.0.named)
-token_one_line (Close n) h = end_one_line n h
+token_one_line t h = grind (arith, head_one_line, lacks-append, escaped_one_line, end_one_line)
 
 pub tokens_once : (ts us : List Token) → AreTokens ts → AreTokens us → text_of_tokens ts ≡ text_of_tokens us → ts ≡ us
 tokens_once [] [] ht hu e = refl

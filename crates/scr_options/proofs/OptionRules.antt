@@ -1,6 +1,5 @@
 -- The command that splits the words, as it is built, and what its rules come to.
-use Rattle.std.proofs.Common.{◌≡◌, ◌∙◌, refl, sym, ap, cond, ℕ, map, List, [], ◌∷◌, Bool, true, false, ◌||◌, ◌&&◌, Option, None, option_map, codes}
-use Rattle.std.specs.Prelude.{count_by, is_some}
+use Rattle.std.proofs.Common.{arith, ◌≡◌, ◌∙◌, refl, sym, ap, cond, ℕ, map, List, [], ◌∷◌, Bool, true, false, ◌||◌, Option, None, option_map, codes}
 use Rattle.std.specs.List.{find, list_all, list_any}
 use Rattle.std.specs.Str.{bytes_eq}
 use Rattle.scr_options.specs.OptionWords.{Form, Text, flag, valued}
@@ -8,7 +7,7 @@ use Rattle.scr_options.specs.OptionsCommand.{raw_rule, options_app, shape_with}
 use Rattle.scr_options.proofs.WordForms.{form_spelled}
 use Rattle.clap.proofs.WalkLemmas.{find-map}
 use Rattle.clap.specs.Walk.{Row, Rule, arg_by_id, arg_by_index, arg_by_long, arg_by_short, has_row, is_early_multiple, used, with_values, without}
-use Rattle.clap.specs.Simple.{App, Shape, built, filled, filled_from, is_ready as is_ready_shape, is_ready_leaf, is_simple}
+use Rattle.clap.specs.Simple.{Shape, built, filled, filled_from, is_simple}
 use Rattle.clap.specs.Kinds.{Kinds}
 use Rattle.clap.specs.Faults.{check_fault, is_free_app, is_simple_and_free, use_fault}
 use Rattle.clap.specs.declared.error.kind.ErrorKind.TheVariants as kind
@@ -145,10 +144,7 @@ module _ (forms : List Form) where
   in_order n = none_passes (is_early_multiple n) rule_for forms (λ form. refl)
 
   pub is_ready : is_simple (options_app forms) ≡ true
-  is_ready =
-      rw (all_pass (λ a. a.is_simple) raw_rule forms (λ form. refl))
-      (ap (λ (a : App). is_ready_shape a.top && list_all is_ready_leaf a.subs) (built_is forms)
-      ∙ rw (plain_rules, in_order (count_by (λ a. is_some a.index) (rules_for forms))) refl)
+  is_ready = grind (arith, all_pass, built_is, plain_rules, in_order)
 
   pub is_ready_and_free : is_simple_and_free (options_app forms) ≡ true
   is_ready_and_free = rw is_ready (ap is_free_app (built_is forms) ∙ rw free_rules refl)

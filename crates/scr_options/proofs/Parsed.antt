@@ -1,5 +1,5 @@
 -- What the parser's answer says of the words.
-use Rattle.std.proofs.Common.{◌≡◌, ◌∙◌, refl, sym, ap, ℕ, ◌+◌, ◌<◌, List, [], ◌∷◌, ◌++◌, length, map, take, get_or, add-one, false, Option, Some, None, option_map}
+use Rattle.std.proofs.Common.{arith, ◌≡◌, ◌∙◌, refl, sym, ap, ℕ, ◌+◌, ◌<◌, List, [], ◌∷◌, ◌++◌, length, map, take, get_or, add-one, false, Option, Some, None, option_map}
 use Rattle.std.specs.Prelude.{option_and_then}
 use Rattle.std.proofs.Math.Seq.{take-suc}
 use Rattle.std.proofs.lemmas.List.{map-append}
@@ -72,5 +72,4 @@ module _ (forms : List Form) (words : List Text) where
   -- and without one the matches have the values
   pub matches_give : (f : Found) → AreLeft words → fault_of (options_app forms) words ≡ [] → rows_of f ≡ matches_of (options_app forms) words
       → options_of forms words ≡ Some (found_values f)
-  matches_give f left none rows =
-      sym (parser_agrees left) ∙ (λ i. values_by (none i) (sym rows i)) ∙ (λ i. Some (λ name. sym (found_rows f name) i))
+  matches_give f left none rows = grind (arith, parser_agrees, values_by, found_rows)

@@ -1,5 +1,5 @@
 -- The parser's rows hold the values so far.
-use Rattle.std.proofs.Common.{◌≡◌, ◌∙◌, refl, sym, ap, cond, List, [], ◌∷◌, ◌++◌, Bool, true, false, ◌||◌, Option, Some, None, is_some, append-nil, fold, codes}
+use Rattle.std.proofs.Common.{arith, ◌≡◌, ◌∙◌, refl, sym, ap, cond, List, [], ◌∷◌, ◌++◌, Bool, true, false, ◌||◌, Option, Some, None, is_some, append-nil, fold, codes}
 use Rattle.std.specs.Prelude.{option_and_then, slice_get}
 use Rattle.std.specs.List.{find}
 use Rattle.std.specs.Str.{bytes_eq}
@@ -8,7 +8,7 @@ use Rattle.scr_options.specs.OptionWords.{Form, Text, Values}
 use Rattle.scr_options.specs.Split.{given}
 use Rattle.scr_options.proofs.OptionRules.{rule_for, rules_for, with_row}
 use Rattle.scr_options.proofs.Steps.{no_values, with_value}
-use Rattle.clap.specs.Walk.{Row, at_row, has_row, more_values, with_default, with_values, without}
+use Rattle.clap.specs.Walk.{Row, at_row, has_row, more_values, with_default}
 use Rattle.clap.specs.Faults.{default_fault, defaults_fault}
 use Rattle.clap.specs.declared.parser.matches.ValueSource.{ValueSource}
 use Rattle.clap.specs.declared.parser.matches.ValueSource.TheVariants.{CommandLine, DefaultValue}
@@ -83,10 +83,7 @@ no_rows_hold name = record { value = refl; has_row = refl }
 -- a first use adds a row
 first_use : (name value : Text) (rows : List Row) → has_row name rows ≡ false
     → with_row name value rows ≡ rows ++ new_row name CommandLine value ∷ []
-first_use name value rows h =
-    let gone : without name rows ≡ rows = at_row-none name (λ _. []) [] rows h ∙ append-nil rows in
-    ap (with_values name reading.AsWritten CommandLine (value ∷ [])) gone
-    ∙ at_row-none name (more_values CommandLine (value ∷ [])) (new_row name CommandLine value ∷ []) rows h
+first_use name value rows h = grind (arith, at_row-none, append-nil, value)
 
 -- a first use gives the option its value
 pub first_use_holds : (rows : List Row) (values : Values) (name value : Text) → RowsHold rows values → values name ≡ None

@@ -1,8 +1,8 @@
 -- The grammar of options word by word.
-use Rattle.std.proofs.Common.{◌≡◌, ◌∙◌, refl, sym, ap, cond, List, [], ◌∷◌, Bool, true, false, Option, Some, None}
+use Rattle.std.proofs.Common.{arith, ◌≡◌, ◌∙◌, refl, sym, ap, cond, List, [], ◌∷◌, Bool, true, false, Option, Some, None}
 use Rattle.std.specs.Prelude.{if◌then◌else◌, option_and_then}
 use Rattle.std.specs.Str.{bytes_eq}
-use Rattle.scr_options.specs.OptionWords.{Form, Text, Values, begins_with_hyphen, give, options_of, options_read, spelled_form, values_with}
+use Rattle.scr_options.specs.OptionWords.{Form, Text, Values, begins_with_hyphen, give, options_of, options_read, spelled_form}
 use Rattle.scr_options.proofs.WordForms.{attached_value, plain-cons, plain-hyphen, plain_words, values-attached, values_beside}
 
 abbrev pub no_values : Values
@@ -30,16 +30,13 @@ module _ (forms : List Form) where
   pub hyphen_read : (s : Values) (word : Text) (rest : List Text) → begins_with_hyphen word ≡ true
       → options_read forms s (word ∷ rest) ≡ option_read s rest (attached_value word) (spelled_form forms word)
   unfolding options_read
-  hyphen_read s word rest h =
-      ap (λ t. cond t (option_and_then (λ form. option_and_then (λ more. options_read forms more rest) (give form.name (values_with form word rest) s)) (spelled_form forms word)) (options_read forms s rest)) h
-      ∙ (λ i. option_and_then (λ form. option_and_then (λ more. options_read forms more rest) (give form.name (values-attached form word rest i) s)) (spelled_form forms word))
+  hyphen_read s word rest h = grind (arith, values-attached)
 
   -- any other word is gone past
   pub plain_skipped : (s : Values) (word : Text) (rest : List Text) → begins_with_hyphen word ≡ false
       → options_read forms s (word ∷ rest) ≡ options_read forms s rest
   unfolding options_read
-  plain_skipped s word rest h =
-      ap (λ t. cond t (option_and_then (λ form. option_and_then (λ more. options_read forms more rest) (give form.name (values_with form word rest) s)) (spelled_form forms word)) (options_read forms s rest)) h
+  plain_skipped s word rest h = grind arith
 
   -- ---- where no option waits for its value, the first word is an option's
 

@@ -1,16 +1,16 @@
 -- What the parser makes of one word.
-use Rattle.std.proofs.Common.{length, ◌≡◌, ◌∙◌, refl, ap, cond, ℕ, ◌==◌, List, [], ◌∷◌, Bool, true, false, Option, Some, None}
-use Rattle.std.specs.Prelude.{drop, encode_utf8, option_and_then, slice_get}
+use Rattle.std.proofs.Common.{arith, length, ◌≡◌, ◌∙◌, refl, ap, cond, ℕ, ◌==◌, List, [], ◌∷◌, Bool, true, false, Option, Some, None}
+use Rattle.std.specs.Prelude.{drop, encode_utf8, slice_get}
 use Rattle.std.specs.Option.{option_map_or}
 use Rattle.std.specs.Str.{bytes_eq, chars}
 use Rattle.std.proofs.lemmas.Slice.Eq.{bytes_eq-Decides}
 use Rattle.scr_options.specs.OptionWords.{Form, Text, begins_with_hyphen, flag, valued}
 use Rattle.scr_options.proofs.WordForms.{attached_value, spelling_in}
 use Rattle.scr_options.proofs.OptionRules.{by_short, no_positional, rule_for, rules_for, shape}
-use Rattle.clap.specs.Lexer.{long_of, long_of_rest, short_of, short_of_rest, strip_byte}
+use Rattle.clap.specs.Lexer.{long_of, short_of}
 use Rattle.clap.specs.Walk.{long_or_other, long_word as clap_long, short_or_plain, trailing, Held, Rule, Step, Waiting, Walk, after_flag, after_step, arg_by_id, arg_by_long, idle, long_met, option, positional, reacted, settled, used, used_by_id, walked}
 use Rattle.clap.specs.Kinds.{Kinds, or_else}
-use Rattle.clap.specs.Faults.{bundle_fault, bundle_step_fault, flags_fault, flag_word_fault, long_fault, positional_fault, settle_fault, short_fault, step_fault, turn_fault, use_fault}
+use Rattle.clap.specs.Faults.{bundle_fault, flags_fault, flag_word_fault, long_fault, settle_fault, step_fault, turn_fault, use_fault}
 use Rattle.clap.specs.declared.error.kind.ErrorKind.TheVariants as kind
 
 -- the walk before a word: no word was met that ends it
@@ -32,12 +32,7 @@ are_dashes word = bytes_eq word (45 ∷ 45 ∷ [])
 plain_facts : (word : Text) → begins_with_hyphen word ≡ false
     → (are_dashes word ≡ false) × (long_of word ≡ None) × (short_of word ≡ None)
 plain_facts [] e = (refl, refl, refl)
-plain_facts (c ∷ rest) e =
-    let none : strip_byte 45 (c ∷ rest) ≡ None = rw e refl in (
-      rw e refl,
-      ap (λ o. option_and_then long_of_rest (option_and_then (strip_byte 45) o)) none,
-      ap (option_and_then short_of_rest) none,
-    )
+plain_facts (c ∷ rest) e = (rw e refl, rw e refl, rw e refl)
 
 abbrev short_word : ℕ → Text → Text
 short_word c rest = 45 ∷ c ∷ rest
@@ -45,8 +40,7 @@ short_word c rest = 45 ∷ c ∷ rest
 short_facts : (c : ℕ) (rest : Text) → (c == 45) ≡ false
     → (are_dashes (short_word c rest) ≡ false) × (long_of (short_word c rest) ≡ None) × (short_of (short_word c rest) ≡ Some (c ∷ rest))
 short_facts c rest e =
-    let none : strip_byte 45 (c ∷ rest) ≡ None = rw e refl in
-    (rw e refl, ap (option_and_then long_of_rest) none, rw e refl)
+    (rw e refl, rw e refl, rw e refl)
 
 abbrev long_word : ℕ → Text → Text
 long_word c rest = 45 ∷ 45 ∷ c ∷ rest
@@ -116,8 +110,7 @@ module _ (forms : List Form) where
       go false (Some p) = refl
 
   stray_turn : (h : Held) (word : Text) → other_turn false None None idle word h ≡ kind.UnknownArgument ∷ []
-  stray_turn h word =
-      ap (λ o. option_map_or (λ a. positional_fault (rules_for forms) false a h) o (kind.UnknownArgument ∷ [])) (no_positional forms)
+  stray_turn h word = grind (arith, rules_for, no_positional)
 
   -- where no option waits it is refused
   pub stray_word : (h : Held) (word : Text) → begins_with_hyphen word ≡ false
@@ -135,11 +128,7 @@ module _ (forms : List Form) where
   pub value_word : (name : Text) (h : Held) (word : Text) → IsValued name → begins_with_hyphen word ≡ false
       → (turn_fault (shape forms) [] (at_word (pending name [] h) (option name)) word ≡ [])
       × (walked (rules_for forms) [] (at_word (pending name [] h) (option name)) word ≡ at_word (pending name (word ∷ []) h) idle)
-  value_word name h word is e =
-      let f = plain_facts word e in (
-        any_turn (option name) (pending name [] h) word ∙ (λ i. other_turn (f.0 i) (f.1 i) (f.2 i) (option name) word (pending name [] h)),
-        waiting_walked name (pending name [] h) word ∙ (λ i. other_walked (f.0 i) (f.1 i) (f.2 i) (option name) word (pending name [] h)) ∙ value_walked name h word is,
-      )
+  value_word name h word is e = grind (arith, plain_facts, any_turn, waiting_walked, value_walked)
 
   abbrev after : ℕ → Text → Text
   after x flags = drop (length (encode_utf8 x)) flags
@@ -148,18 +137,12 @@ module _ (forms : List Form) where
   bundle_refused : (h : Held) (c x : ℕ) (rest : Text) → h.skip ≡ 0 → slice_get (chars (c ∷ rest)) 0 ≡ Some x
       → bundle_fault (rules_for forms) false (c ∷ rest) h ≡ kind.UnknownArgument ∷ []
   unfolding flags_fault
-  bundle_refused h c x rest zero first =
-      (λ i. bundle_step_fault (rules_for forms) false (first i) (c ∷ rest) (zero i) (record h { skip = 0 }) (flags_fault (rules_for forms) false (length rest)))
-      ∙ ap (λ o. short_fault (rules_for forms) false o (after x (c ∷ rest)) (record h { skip = 0 }) (flags_fault (rules_for forms) false (length rest) (after x (c ∷ rest)) 0)) (by_short forms x)
+  bundle_refused h c x rest zero first = grind (arith, rules_for, by_short)
 
   pub short_refused : (waiting : Waiting) (h : Held) (c x : ℕ) (rest : Text) → (c == 45) ≡ false → h.skip ≡ 0
       → slice_get (chars (c ∷ rest)) 0 ≡ Some x
       → turn_fault (shape forms) [] (at_word h waiting) (short_word c rest) ≡ kind.UnknownArgument ∷ []
-  short_refused waiting h c x rest e zero first =
-      let f = short_facts c rest e in
-      any_turn waiting h (short_word c rest) ∙ (λ i. other_turn (f.0 i) (f.1 i) (f.2 i) waiting (short_word c rest) h)
-      ∙ ap (λ ks. or_else ks (step_fault (shape forms) 1 (other_step false None (Some (c ∷ rest)) waiting (short_word c rest) h).0
-      (other_step false None (Some (c ∷ rest)) waiting (short_word c rest) h).1)) (bundle_refused h c x rest zero first)
+  short_refused waiting h c x rest e zero first = grind (arith, short_facts, any_turn, shape, bundle_refused)
 
   -- ---- a word of two hyphens and more
 

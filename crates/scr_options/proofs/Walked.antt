@@ -1,5 +1,5 @@
 -- The parser on all the words: it gives the values that the grammar does.
-use Rattle.std.proofs.Common.{◌≡◌, ◌∙◌, ◌⊎◌, inl, inr, refl, sym, ap, subst, cond, ℕ, ◌==◌, List, [], ◌∷◌, Bool, true, false, Option, Some, None, option_map, is_some, codes}
+use Rattle.std.proofs.Common.{arith, ◌≡◌, ◌∙◌, ◌⊎◌, inl, inr, refl, sym, ap, subst, cond, ℕ, ◌==◌, List, [], ◌∷◌, Bool, true, false, Option, Some, None, option_map, is_some, codes}
 use Rattle.std.specs.Prelude.{option_and_then, slice_get}
 use Rattle.std.specs.Str.{bytes_eq, chars}
 use Rattle.std.specs.List.{fold}
@@ -71,10 +71,7 @@ module _ (forms : List Form) where
   goes_on : (w v : Walk) (word : Text) (rest : List Text) → turn_fault (shape forms) [] w word ≡ [] → walked rules [] w word ≡ v
       → parsed_from w (word ∷ rest) ≡ parsed_from v rest
   unfolding walk_fault
-  goes_on w v word rest none is =
-      let after = walked rules [] w word in
-      ap (λ t. values_by (or_else (or_else t (walk_fault (shape forms) [] after rest)) (end_fault (walk_from after rest).held)) (finished rules (walk_from after rest).held)) none
-      ∙ ap (λ u. parsed_from u rest) is
+  goes_on w v word rest none is = grind (arith, shape)
 
   no_words : (w : Walk) → parsed_from w [] ≡ values_by (end_fault w.held) (finished rules w.held)
   unfolding walk_fault

@@ -1,6 +1,6 @@
 -- What a word is to the grammar and to the parser.
-use Rattle.std.proofs.Common.{◌≡◌, ◌∙◌, refl, ap, cond, ℕ, suc, ◌+◌, ◌==◌, List, [], ◌∷◌, ◌++◌, Bool, true, false, Option, Some, None, codes, arith}
-use Rattle.std.specs.List.{after_first, before_first, find, list_any, position_or_len}
+use Rattle.std.proofs.Common.{◌≡◌, ◌∙◌, refl, ap, cond, ℕ, ◌==◌, List, [], ◌∷◌, ◌++◌, Bool, true, false, Option, Some, None, codes, arith}
+use Rattle.std.specs.List.{after_first, before_first, find, list_any}
 use Rattle.std.specs.Str.{bytes_eq}
 use Rattle.std.proofs.lemmas.Bool.Decides.{nat_tests}
 use Rattle.scr_options.specs.OptionWords.{Form, Text, begins_with_hyphen, is_equals, spelled_form, values_with}
@@ -33,10 +33,7 @@ before-stop : {X : Type 0} (p : X → Bool) (x : X) (xs : List X) → p x ≡ tr
 before-stop p x xs h = rw h refl
 
 before-cons : {X : Type 0} (p : X → Bool) (x : X) (xs : List X) → p x ≡ false → before_first p (x ∷ xs) ≡ x ∷ before_first p xs
-before-cons p x xs h =
-    let n = position_or_len p xs in
-    let next : 1 + n ≡ suc n = omega arith in
-    rw (h, next) refl
+before-cons p x xs h = grind arith
 
 pub spelling-equals : (c : ℕ) (rest : Text) → is_equals c ≡ true → spelling_in (c ∷ rest) ≡ []
 spelling-equals c rest h = before-stop is_equals c rest h
@@ -45,10 +42,7 @@ pub spelling-cons : (c : ℕ) (rest : Text) → is_equals c ≡ false → spelli
 spelling-cons c rest h = before-cons is_equals c rest h
 
 pub attached-cons : (c : ℕ) (rest : Text) → is_equals c ≡ false → attached_value (c ∷ rest) ≡ attached_value rest
-attached-cons c rest h =
-    let n = position_or_len is_equals rest in
-    let next : 1 + n + 1 ≡ suc (n + 1) = omega arith in
-    rw (h, next) refl
+attached-cons c rest h = grind arith
 
 -- a word of two hyphens and a text
 pub long_spelling : (rest : Text) → spelling_in (45 ∷ 45 ∷ rest) ≡ 45 ∷ 45 ∷ spelling_in rest

@@ -1,5 +1,5 @@
 -- Laws of digits that are added place by place.
-use Rattle.std.proofs.Common.{◌≡◌, ℕ, zero, suc, ◌+◌, ◌%◌, ◌<◌, List, [], ◌∷◌, length, slice_index, refl, sym, ap, ◌∙◌, arith, add_assoc}
+use Rattle.std.proofs.Common.{rules, ◌≡◌, ℕ, zero, suc, ◌+◌, ◌%◌, ◌<◌, List, [], ◌∷◌, length, slice_index, refl, sym, ap, ◌∙◌, arith, add_assoc}
 use Rattle.std.proofs.Math.Nat.{add-mod-mod, mod-add-mod, mod-eq_of_lt, zero-mod}
 use Rattle.std.proofs.lemmas.Nat.{mod_below}
 use Rattle.std.proofs.lemmas.List.Elements.{All-nil, All-cons, All-head, All-tail}
@@ -18,8 +18,7 @@ pub All-added_digits : (m : ℕ) (ds es : List ℕ) → 0 < m → All (λ d. d <
 unfolding added_digits
 All-added_digits m [] es pos = All-nil (λ d. d < m)
 All-added_digits m (d ∷ ds) [] pos = All-nil (λ d. d < m)
-All-added_digits m (d ∷ ds) (e ∷ es) pos =
-    All-cons (λ d. d < m) ((d + e) % m) (added_digits m ds es) (mod_below (d + e) m pos) (All-added_digits m ds es pos)
+All-added_digits m (d ∷ ds) (e ∷ es) pos = grind (arith, All-cons, mod_below, All-added_digits m ds es pos)
 
 -- each place has its sum
 pub added_digits-at : (m : ℕ) (ds es : List ℕ) (k : ℕ) → length ds ≡ length es → k < length ds
@@ -56,8 +55,7 @@ unfolding added_digits
 total-added_digits m [] [] h = refl
 total-added_digits m [] (e ∷ es) h = absurd (omega (arith, h))
 total-added_digits m (d ∷ ds) [] h = absurd (omega (arith, h))
-total-added_digits m (d ∷ ds) (e ∷ es) h =
-    sum_step m d e (total (added_digits m ds es)) (total ds) (total es) (total-added_digits m ds es (omega (arith, h)))
+total-added_digits m (d ∷ ds) (e ∷ es) h = grind (arith, sum_step, total-added_digits m ds es (omega (arith, h)))
 
 same_sum : (m d e f : ℕ) → ((d + e) % m + f) % m ≡ (d + (e + f) % m) % m
 same_sum m d e f = mod-add-mod (d + e) m f ∙ ap (λ z. z % m) (add_assoc d e f) ∙ sym (add-mod-mod d (e + f) m)
@@ -69,9 +67,7 @@ unfolding added_digits
 added_digits-assoc m [] es fs = refl
 added_digits-assoc m (d ∷ ds) [] fs = refl
 added_digits-assoc m (d ∷ ds) (e ∷ es) [] = refl
-added_digits-assoc m (d ∷ ds) (e ∷ es) (f ∷ fs) =
-    ap (λ x. x ∷ added_digits m (added_digits m ds es) fs) (same_sum m d e f)
-    ∙ ap (λ xs. (d + (e + f) % m) % m ∷ xs) (added_digits-assoc m ds es fs)
+added_digits-assoc m (d ∷ ds) (e ∷ es) (f ∷ fs) = grind (arith, same_sum, added_digits-assoc m ds es fs)
 
 -- sums are picked as their parts are
 pub pick-added_digits : (m : ℕ) (ds es ks : List ℕ) → length ds ≡ length es → All (λ k. k < length ds) ks
@@ -79,8 +75,7 @@ pub pick-added_digits : (m : ℕ) (ds es ks : List ℕ) → length ds ≡ length
 unfolding added_digits
 pick-added_digits m ds es [] h below = refl
 pick-added_digits m ds es (k ∷ ks) h below =
-    ap (λ x. x ∷ pick (added_digits m ds es) ks) (added_digits-at m ds es k h (All-head (λ i. i < length ds) k ks below))
-    ∙ ap (λ xs. (slice_index ds k + slice_index es k) % m ∷ xs) (pick-added_digits m ds es ks h (All-tail (λ i. i < length ds) k ks below))
+    search (arith, rules, added_digits-at, All-head, All-tail, pick-added_digits m ds es ks h)
 
 pub length-zeros : (n : ℕ) → length (zeros n) ≡ n
 length-zeros zero = refl

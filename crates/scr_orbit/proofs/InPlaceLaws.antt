@@ -1,7 +1,6 @@
 -- Laws of pieces that turn at their places.
-use Rattle.std.proofs.Common.{◌≡◌, ℕ, ◌<◌, List, Some, length, get_or, sym, ap, ◌∙◌}
+use Rattle.std.proofs.Common.{arith, ◌≡◌, ℕ, ◌<◌, List, Some, length, get_or, sym, ap, ◌∙◌}
 use Rattle.std.specs.Prelude.{slice_get}
-use Rattle.std.specs.Option.{option_map}
 use Rattle.std.proofs.lemmas.Option.{slice_get-get_or}
 use Rattle.scr_combinatorics.specs.Lists.{numbers_from, pick}
 use Rattle.scr_combinatorics.proofs.Picks.{pick-in_order, length-numbers_from}
@@ -13,8 +12,7 @@ use Rattle.scr_orbit.proofs.DigitLaws.{length-added_digits, All-added_digits, ad
 
 AreDigitsInPlace-added : (n m : ℕ) (ds es : List ℕ) → 0 < m → AreDigitsInPlace n m ds → AreDigitsInPlace n m es
     → AreDigitsInPlace n m (added_digits m ds es)
-AreDigitsInPlace-added n m ds es pos a b =
-    record { size = length-added_digits m ds es (a.size ∙ sym b.size) ∙ a.size; below = All-added_digits m ds es pos }
+AreDigitsInPlace-added n m ds es pos a b = grind (arith, length-added_digits, All-added_digits)
 
 pub AreDigitsInPlace-zeros : (n m : ℕ) → 0 < m → AreDigitsInPlace n m (zeros n)
 AreDigitsInPlace-zeros n m pos = record { size = length-zeros n; below = All-zeros m n pos }
@@ -29,13 +27,8 @@ from_zeros n m ds a =
     ∙ added_digits-to_zeros m n (numbers_from 0 n) ds a.below (length-numbers_from 0 n ∙ sym a.size)
 
 pub in_place_laws : (n m : ℕ) → 0 < m → IsMonoid (in_place_monoid n m) (AreDigitsInPlace n m)
-in_place_laws n m pos = record {
-  kept = λ ds es a b. AreDigitsInPlace-added n m ds es pos a b;
-  solved = AreDigitsInPlace-zeros n m pos;
-  grouped = λ ds es fs a b c. added_digits-assoc m ds es fs;
-  solved_first = from_zeros n m;
-  solved_last = added_digits-still n m;
-}
+in_place_laws n m pos =
+    grind (arith, AreDigitsInPlace-added, AreDigitsInPlace-zeros, added_digits-assoc, from_zeros, added_digits-still)
 
 -- a row of a table, and the digits after a turn that is read from it
 row-at : (rows all : List (List ℕ)) (k : ℕ) (d : List ℕ) → rows ≡ all → k < length rows
@@ -45,6 +38,4 @@ row-at rows all k d e lt = ap (λ xs. slice_get xs k) (sym e) ∙ slice_get-get_
 pub added-at : {all : List (List ℕ)} {ds from to : List ℕ} (m : ℕ) (rows : List (List ℕ)) (k : ℕ) (d : List ℕ)
     → from ≡ ds → rows ≡ all → k < length rows → to ≡ added_digits m from (get_or rows k d)
     → IsMadeAt all k (added_digits m ds) to
-added-at {all = all} {ds = ds} m rows k d same e lt made = record {
-  is = ap (option_map (added_digits m ds)) (row-at rows all k d e lt) ∙ ap Some (sym (made ∙ ap (λ x. added_digits m x (get_or rows k d)) same));
-}
+added-at {all = all} {ds = ds} m rows k d same e lt made = grind (arith, row-at)

@@ -1,5 +1,5 @@
 -- The inverse of an orbit: that it is one, and what it keeps.
-use Rattle.std.proofs.Common.{◌≡◌, ℕ, suc, ◌+◌, ◌-◌, ◌%◌, ◌<◌, List, [], ◌∷◌, length, map, get_or, refl, sym, ap, ◌∙◌, subst, arith, lit<}
+use Rattle.std.proofs.Common.{rules, ◌≡◌, ℕ, suc, ◌+◌, ◌-◌, ◌%◌, ◌<◌, List, [], ◌∷◌, length, map, get_or, refl, sym, ap, ◌∙◌, subst, arith, lit<}
 use Rattle.std.specs.Prelude.{All}
 use Rattle.std.proofs.Math.Nat.{add-mod-mod, mod_self, mod-eq_of_lt}
 use Rattle.std.proofs.lemmas.Nat.{mod_below}
@@ -36,9 +36,7 @@ added-opposite_digits : (m : ℕ) (ds : List ℕ) → All (λ d. d < m) ds
     → added_digits m ds (opposite_digits m ds) ≡ zeros (length ds)
 unfolding added_digits
 added-opposite_digits m [] h = refl
-added-opposite_digits m (d ∷ ds) h =
-    ap (λ x. x ∷ added_digits m ds (opposite_digits m ds)) (none_left m d (All-head (λ x. x < m) d ds h))
-    ∙ ap (λ xs. 0 ∷ xs) (added-opposite_digits m ds (All-tail (λ x. x < m) d ds h))
+added-opposite_digits m (d ∷ ds) h = search (arith, rules, none_left, All-head, All-tail, added-opposite_digits m ds)
 
 -- Each piece has the number of the place where the piece with its place's number stands, and what is left of that one's
 -- digit.
@@ -47,12 +45,8 @@ inverse_orbit m o = record { pieces = inverse o.pieces; digits = opposite_digits
 
 IsOrbit-inverse : (n m : ℕ) (o : Orbit) → 0 < m → IsOrbit n m o → IsOrbit n m (inverse_orbit m o)
 unfolding inverse_orbit
-IsOrbit-inverse n m o pos h = record {
-  pieces = IsPermutation-inverse n o.pieces h.pieces;
-  size = length-map (pick o.digits (inverse o.pieces)) (λ d. (m - d) % m)
-      ∙ length-pick o.digits (inverse o.pieces) ∙ length-inverse o.pieces ∙ h.pieces.size;
-  below = All-opposite_digits m (pick o.digits (inverse o.pieces)) pos;
-}
+IsOrbit-inverse n m o pos h =
+    grind (arith, IsPermutation-inverse, length-map, length-pick, length-inverse, All-opposite_digits)
 
 turned-inverse_orbit : (n m : ℕ) (o : Orbit) → IsOrbit n m o → turned_orbit m o (inverse_orbit m o) ≡ solved_orbit n
 unfolding inverse_orbit turned_orbit solved_orbit

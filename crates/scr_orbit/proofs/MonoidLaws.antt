@@ -1,6 +1,6 @@
 -- Laws of states that are turns, too, once for all puzzles: powers add up, a word makes of any state what it makes of
 -- the solved one, and turns are lawful, so that words are taken back and tidied by the laws of `scr_combinatorics`.
-use Rattle.std.proofs.Common.{◌≡◌, ℕ, zero, suc, ◌+◌, ◌*◌, ◌/◌, ◌%◌, ◌<◌, IsTrue, List, [], ◌∷◌, Option, Some, None, refl, sym, ap, ◌∙◌, subst, arith}
+use Rattle.std.proofs.Common.{◌≡◌, ℕ, zero, suc, ◌+◌, ◌*◌, ◌%◌, ◌<◌, IsTrue, List, [], ◌∷◌, Option, Some, None, refl, sym, ap, ◌∙◌, arith}
 use Rattle.std.specs.Prelude.{option_and_then}
 use Rattle.std.specs.Option.{option_map}
 use Rattle.std.proofs.lemmas.Option.{same_Some}
@@ -36,60 +36,32 @@ module _ {S : Type 0} (m : Monoid S) (IsValid : S → Type 0) (l : IsMonoid m Is
       → power m r (order * k) ≡ m.solved
   unfolding power
   power-multiple r order zero h e = let none : order * zero ≡ zero = omega arith in ap (power m r) none
-  power-multiple r order (suc k) h e =
-      let more : order * suc k ≡ order + order * k = omega arith in
-      ap (power m r) more ∙ power-add r order (order * k) h
-      ∙ ap (λ x. m.turned x (power m r (order * k))) e
-      ∙ l.solved_first (power m r (order * k)) (IsValid-power r (order * k) h)
-      ∙ power-multiple r order k h e
+  power-multiple r order (suc k) h e = grind (arith, power-add, IsValid-power, power-multiple r order k h e)
 
   -- exponents count modulo the order
   pub power-mod : (r : S) (order n : ℕ) → 0 < order → IsValid r → power m r order ≡ m.solved
       → power m r (n % order) ≡ power m r n
-  power-mod r order n pos h e =
-      let whole : order * (n / order) + n % order ≡ n = omega arith in
-      sym (l.solved_first (power m r (n % order)) (IsValid-power r (n % order) h))
-      ∙ ap (λ x. m.turned x (power m r (n % order))) (sym (power-multiple r order (n / order) h e))
-      ∙ sym (power-add r (order * (n / order)) (n % order) h)
-      ∙ ap (power m r) whole
+  power-mod r order n pos h e = grind (arith, IsValid-power, power-multiple, power-add)
 
   -- ---- inverses
 
   -- a state that is solved with another both ways is its inverse
   pub IsInverse-both : (s r : S) → IsValid s → IsValid r → m.turned s r ≡ m.solved → m.turned r s ≡ m.solved
       → IsInverse m IsValid s r
-  IsInverse-both s r own valid after before = record {
-    valid = valid;
-    after = after;
-    before = before;
-    only_after = λ q h e.
-        sym (l.solved_first q h) ∙ ap (λ x. m.turned x q) (sym before) ∙ l.grouped r s q valid own h
-        ∙ ap (m.turned r) e ∙ l.solved_last r valid;
-    only_before = λ q h e.
-        sym (l.solved_last q h) ∙ ap (m.turned q) (sym after) ∙ sym (l.grouped q s r h own valid)
-        ∙ ap (λ x. m.turned x r) e ∙ l.solved_first r valid;
-  }
+  IsInverse-both s r own valid after before = grind arith
 
   -- where each state is solved with another, that is its inverse
   pub IsInverse-right : (inverted : S → S) → ((s : S) → IsValid s → IsValid (inverted s))
       → ((s : S) → IsValid s → m.turned s (inverted s) ≡ m.solved) → (s : S) → IsValid s
       → IsInverse m IsValid s (inverted s)
-  IsInverse-right inverted valid after s own =
-      let r = inverted s in
-      let r_is = valid s own in
-      let again : inverted r ≡ s =
-      sym (l.solved_first (inverted r) (valid r r_is)) ∙ ap (λ x. m.turned x (inverted r)) (sym (after s own))
-      ∙ l.grouped s r (inverted r) own r_is (valid r r_is) ∙ ap (m.turned s) (after r r_is) ∙ l.solved_last s own in
-      IsInverse-both s r own r_is (after s own) (ap (m.turned r) (sym again) ∙ after r r_is)
+  IsInverse-right inverted valid after s own = grind (arith, IsInverse-both)
 
 module _ {S T : Type 0} (m : Monoid S) (IsValid : S → Type 0) (l : IsMonoid m IsValid) (table : T → Option S)
     (turns : (t : T) (r : S) → table t ≡ Some r → IsValid r) where
   -- ---- words
 
   pub IsValid-after : (s r : S) (t : T) → IsValid s → after_by m table s t ≡ Some r → IsValid r
-  IsValid-after s r t v e =
-      let made = map-some (m.turned s) (table t) r e in
-      subst IsValid made.2 (l.kept s made.0 v (turns t made.0 made.1))
+  IsValid-after s r t v e = grind (arith, map-some)
 
   -- a word from where a turn, or none, leads
   abbrev behind : List T → S → Option S → Option S
@@ -114,8 +86,7 @@ module _ {S T : Type 0} (m : Monoid S) (IsValid : S → Type 0) (l : IsMonoid m 
   -- So a word is one turn, that which it makes of the solved state.
   pub play-solved : (s : S) (w : List T) → IsValid s
       → play (after_by m table) s w ≡ option_map (m.turned s) (play (after_by m table) m.solved w)
-  play-solved s w h =
-      ap (λ x. play (after_by m table) x w) (sym (l.solved_last s h)) ∙ play-turned s m.solved w h l.solved
+  play-solved s w h = grind (arith, play-turned)
 
   -- ---- what is taken back and tidied
 
@@ -126,24 +97,8 @@ module _ {S T : Type 0} (m : Monoid S) (IsValid : S → Type 0) (l : IsMonoid m 
     merged_by : (s : S) (o : Option T) (r : S) → IsValid s → merged_turn m table o ≡ Some r
         → play (after_by m table) s (word_of o) ≡ Some (m.turned s r)
     unfolding word_of
-    merged_by s None r v e =
-        play-empty (after_by m table) s ∙ ap Some (sym (l.solved_last s v) ∙ ap (m.turned s) (same_Some m.solved r e))
+    merged_by s None r v e = grind (arith, play-empty, same_Some)
     merged_by s (Some t) r v e = play-one (after_by m table) s t ∙ ap (option_map (m.turned s)) e
 
     pub IsLawful-table : IsLawful (after_by m table) opposite merging IsValid
-    IsLawful-table = record {
-      keeps = IsValid-after;
-      undoes = λ s r t v e.
-          let made = map-some (m.turned s) (table t) r e in
-          let back = opposites t made.0 made.1 in
-          ap (option_map (m.turned r)) back.1
-          ∙ ap (λ x. Some (m.turned x back.0)) (sym made.2)
-          ∙ ap Some (l.grouped s made.0 back.0 v (turns t made.0 made.1) (turns (opposite t) back.0 back.1)
-          ∙ ap (m.turned s) back.2 ∙ l.solved_last s v);
-      merges = λ s r q t u v alike e f.
-          let one = map-some (m.turned s) (table t) r e in
-          let two = map-some (m.turned r) (table u) q f in
-          merged_by s (merging.merged t u) (m.turned one.0 two.0) v (merges t u one.0 two.0 alike one.1 two.1)
-          ∙ ap Some (sym (l.grouped s one.0 two.0 v (turns t one.0 one.1) (turns u two.0 two.1))
-          ∙ ap (λ x. m.turned x two.0) one.2 ∙ two.2);
-    }
+    IsLawful-table = grind (arith, IsValid-after, map-some, merged_by)

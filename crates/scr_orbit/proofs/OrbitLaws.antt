@@ -1,22 +1,19 @@
 -- Laws of orbits, and of turns, told by what they make of the solved one, over any number of places and any modulus.
-use Rattle.std.proofs.Common.{◌≡◌, ℕ, ◌+◌, ◌%◌, ◌<◌, List, length, sym, ap, ◌∙◌, subst, arith}
+use Rattle.std.proofs.Common.{rules, ◌≡◌, ℕ, ◌+◌, ◌%◌, ◌<◌, List, length, sym, ap, ◌∙◌, subst, arith}
 use Rattle.std.specs.Prelude.{All}
 use Rattle.std.proofs.Math.Nat.{mod-add-mod}
-use Rattle.scr_combinatorics.specs.Lists.{total, numbers_from, pick}
+use Rattle.scr_combinatorics.specs.Lists.{total, pick}
 use Rattle.scr_combinatorics.specs.Permutations.{IsPermutation, parity}
 use Rattle.scr_combinatorics.proofs.Picks.{length-pick, pick-in_order, pick-from_order, pick-pick}
 use Rattle.scr_combinatorics.proofs.PermutationLaws.{All-permutation, IsPermutation-pick, IsPermutation-numbers_from, total-pick}
 use Rattle.scr_combinatorics.proofs.Parities.{parity-pick}
 use Rattle.scr_orbit.specs.Monoids.{IsMonoid}
-use Rattle.scr_orbit.specs.Orbits.{Orbit, IsOrbit, IsZeroSumOrbit, added_digits, turned_orbit, zeros, solved_orbit, orbit_monoid}
+use Rattle.scr_orbit.specs.Orbits.{Orbit, IsOrbit, IsZeroSumOrbit, added_digits, turned_orbit, solved_orbit, orbit_monoid}
 use Rattle.scr_orbit.proofs.DigitLaws.{length-added_digits, All-added_digits, total-added_digits, added_digits-assoc, pick-added_digits, length-zeros, All-zeros, total-zeros, added_digits-zeros, added_digits-to_zeros}
 
 -- an orbit is its pieces and its digits
 pub same_orbit : (o p : Orbit) → o.pieces ≡ p.pieces → o.digits ≡ p.digits → o ≡ p
-same_orbit o p a b =
-    let first : List ℕ → Orbit = λ xs. record { pieces = xs; digits = o.digits } in
-    let second : List ℕ → Orbit = λ xs. record { pieces = p.pieces; digits = xs } in
-    ap first a ∙ ap second b
+same_orbit o p a b = grind arith
 
 pub places_in : (n : ℕ) (ks xs : List ℕ) → IsPermutation n ks → length xs ≡ n → All (λ k. k < length xs) ks
 places_in n ks xs h e = subst (λ n. All (λ k. k < n) ks) (sym e) (All-permutation n ks h)
@@ -31,19 +28,14 @@ picked_size n r xs h e = length-pick xs r.pieces ∙ h.size ∙ sym e
 pub IsOrbit-turned : (n m : ℕ) (o r : Orbit) → 0 < m → IsOrbit n m o → IsOrbit n m r
     → IsOrbit n m (turned_orbit m o r)
 unfolding turned_orbit
-IsOrbit-turned n m o r pos a b = record {
-  pieces = IsPermutation-pick n o.pieces r.pieces a.pieces b.pieces;
-  size = length-added_digits m (pick o.digits r.pieces) r.digits (picked_size n r o.digits b.pieces b.size) ∙ length-pick o.digits r.pieces ∙ b.pieces.size;
-  below = All-added_digits m (pick o.digits r.pieces) r.digits pos;
-}
+IsOrbit-turned n m o r pos a b =
+    grind (arith, IsPermutation-pick, length-added_digits, picked_size, length-pick, All-added_digits)
 
 -- the sum of the digits after a turn is their sum and what is added
 pub total-turned : (n m : ℕ) (o r : Orbit) → IsOrbit n m o → IsOrbit n m r
     → total (turned_orbit m o r).digits % m ≡ (total o.digits + total r.digits) % m
 unfolding turned_orbit
-total-turned n m o r a b =
-    total-added_digits m (pick o.digits r.pieces) r.digits (picked_size n r o.digits b.pieces b.size)
-    ∙ ap (λ z. (z + total r.digits) % m) (total-pick o.digits r.pieces (subst (λ k. IsPermutation k r.pieces) (sym a.size) b.pieces))
+total-turned n m o r a b = grind (arith, total-added_digits, picked_size, total-pick)
 
 -- the parity of the pieces after a turn is the sum of both parities
 pub parity-turned : (n m : ℕ) (o r : Orbit) → IsPermutation n o.pieces → IsPermutation n r.pieces
@@ -69,34 +61,19 @@ turned-turned n m o r s a b c =
 -- where nothing moves an orbit stays as it is
 pub turned-solved : (n m : ℕ) (o : Orbit) → IsOrbit n m o → turned_orbit m o (solved_orbit n) ≡ o
 unfolding turned_orbit solved_orbit
-turned-solved n m o a =
-    let pieces : pick o.pieces (numbers_from 0 n) ≡ o.pieces = ap (λ k. pick o.pieces (numbers_from 0 k)) (sym a.pieces.size) ∙ pick-in_order o.pieces in
-    let picked : pick o.digits (numbers_from 0 n) ≡ o.digits = ap (λ k. pick o.digits (numbers_from 0 k)) (sym a.size) ∙ pick-in_order o.digits in
-    let digits : added_digits m (pick o.digits (numbers_from 0 n)) (zeros n) ≡ o.digits =
-    ap (λ xs. added_digits m xs (zeros n)) picked ∙ ap (λ k. added_digits m o.digits (zeros k)) (sym a.size) ∙ added_digits-zeros m o.digits a.below in
-    same_orbit _ _ pieces digits
+turned-solved n m o a = grind (arith, pick-in_order, added_digits-zeros, same_orbit)
 
 -- and a turn makes itself of the solved one
 pub solved-turned : (n m : ℕ) (o : Orbit) → IsOrbit n m o → turned_orbit m (solved_orbit n) o ≡ o
 unfolding turned_orbit solved_orbit
-solved-turned n m o a =
-    let pieces : pick (numbers_from 0 n) o.pieces ≡ o.pieces = pick-from_order n o.pieces (All-permutation n o.pieces a.pieces) in
-    let digits : added_digits m (pick (zeros n) o.pieces) o.digits ≡ o.digits =
-    added_digits-to_zeros m n o.pieces o.digits a.below (a.pieces.size ∙ sym a.size) in
-    same_orbit _ _ pieces digits
+solved-turned n m o a = grind (arith, pick-from_order, All-permutation, added_digits-to_zeros, same_orbit)
 
 pub IsOrbit-solved : (n m : ℕ) → 0 < m → IsOrbit n m (solved_orbit n)
 unfolding solved_orbit
 IsOrbit-solved n m pos = record { pieces = IsPermutation-numbers_from n; size = length-zeros n; below = All-zeros m n pos }
 
 pub orbit_laws : (n m : ℕ) → 0 < m → IsMonoid (orbit_monoid n m) (IsOrbit n m)
-orbit_laws n m pos = record {
-  kept = λ o r a b. IsOrbit-turned n m o r pos a b;
-  solved = IsOrbit-solved n m pos;
-  grouped = turned-turned n m;
-  solved_first = solved-turned n m;
-  solved_last = turned-solved n m;
-}
+orbit_laws n m pos = search (arith, rules, IsOrbit-turned, IsOrbit-solved, turned-turned, solved-turned, turned-solved)
 
 -- ---- where the digits sum to 0
 

@@ -1,5 +1,5 @@
 -- How often turns and words are done to move nothing, by tests that the checker computes over whole tables.
-use Rattle.std.proofs.Common.{◌≡◌, ℕ, zero, suc, ◌+◌, ◌-◌, ◌<◌, Bool, true, false, not, List, [], ◌∷◌, Option, Some, None, map, refl, subst, sym, ap, ◌∙◌, arith, ltb-true}
+use Rattle.std.proofs.Common.{rules, ◌≡◌, ℕ, zero, suc, ◌+◌, ◌-◌, ◌<◌, Bool, true, false, not, List, [], ◌∷◌, Option, Some, None, map, refl, ap, ◌∙◌, arith, ltb-true}
 use Rattle.std.specs.Prelude.{All, ◌&&◌, nat_lt, slice_get}
 use Rattle.std.specs.List.{list_all}
 use Rattle.std.specs.Str.{bytes_eq}
@@ -36,12 +36,7 @@ tells_in_place n m = record { shows = zeros_only n; passes = (bytes_eq-Decides (
 pub tells_both : {S T U : Type 0} (m : Monoid S) (n : Monoid T) (k : Monoid U) (seen : S → T × U)
     → IsSeenAs m (pair_monoid n k) seen → (test : T → Bool) (other : U → Bool) → TellsSolved n test
     → TellsSolved k other → TellsSolved m (λ s. test (seen s).0 && other (seen s).1)
-tells_both m n k seen are test other first second = record {
-  shows = λ s h.
-      let both = and_parts (test (seen s).0) (other (seen s).1) h in
-      are.same s m.solved (ap_both pair (first.shows (seen s).0 both.0) (second.shows (seen s).1 both.1) ∙ sym are.solved);
-  passes = ap (λ p. test p.0 && other p.1) are.solved ∙ both_true first.passes second.passes;
-}
+tells_both m n k seen are test other first second = grind (arith, and_parts, ap_both, pair)
 
 -- a test fails at the next powers
 abbrev pub apart : {S : Type 0} → Monoid S → (S → Bool) → S → ℕ → S → Bool
@@ -52,14 +47,8 @@ apart-at : {S : Type 0} (m : Monoid S) (test : S → Bool) (r : S) (n j i : ℕ)
     → i < n → test (power m r (j + i)) ≡ true → ⊥
 unfolding power
 apart-at m test r zero j i h lt e = absurd (omega arith)
-apart-at m test r (suc n) j zero h lt e =
-    let here : j + zero ≡ j = omega arith in
-    let fails = and_parts (not (test (power m r j))) (apart m test r n (m.turned r (power m r j))) h in
-    false≢true (sym (ap not (ap (λ k. test (power m r k)) (sym here) ∙ e)) ∙ fails.0)
-apart-at m test r (suc n) j (suc i) h lt e =
-    let next : j + suc i ≡ suc j + i = omega arith in
-    let fails = and_parts (not (test (power m r j))) (apart m test r n (m.turned r (power m r j))) h in
-    apart-at m test r n (suc j) i fails.1 (omega arith) (ap (λ k. test (power m r k)) (sym next) ∙ e)
+apart-at m test r (suc n) j zero h lt e = grind (arith, and_parts, false≢true)
+apart-at m test r (suc n) j (suc i) h lt e = grind (arith, and_parts, apart-at m test r n (suc j) i)
 
 -- an order, as a test
 abbrev pub has_order : {S : Type 0} → Monoid S → (S → Bool) → ℕ → S → Bool
@@ -109,10 +98,7 @@ module _ {S : Type 0} (m : Monoid S) (test : S → Bool) (tells : TellsSolved m 
     pub All-word_orders : (rows : List (List ℕ × ℕ))
         → list_all (λ row. word_has_order m test row.1 (play (after_by m table) m.solved (map letter_at row.0))) rows ≡ true
         → All (λ row. IsWordOrder m table (map letter_at row.0) row.1) rows
-    All-word_orders rows h =
-        All-from_test (λ row. word_has_order m test row.1 (play (after_by m table) m.solved (map letter_at row.0)))
-        (λ row. IsWordOrder m table (map letter_at row.0) row.1)
-        (λ row k. by (map letter_at row.0) row.1 (play (after_by m table) m.solved (map letter_at row.0)) refl k) rows h
+    All-word_orders rows h = search (arith, rules, All-from_test, by)
 
 -- ---- what holds at each place of a list
 
@@ -123,15 +109,9 @@ EachFrom P k (x ∷ xs) = P k x × EachFrom P (suc k) xs
 each_from : {X : Type 0} (P : ℕ → X → Type 0) (j : ℕ) (xs : List X) → EachFrom P j xs → (k : ℕ) (x : X)
     → slice_get xs k ≡ Some x → P (j + k) x
 each_from P j [] h k x e = absurd (cc)
-each_from P j (y ∷ xs) h zero x e =
-    let here : j ≡ j + zero = omega arith in
-    subst (λ i. P i x) here (subst (P j) (same_Some y x e) h.0)
-each_from P j (y ∷ xs) h (suc k) x e =
-    let next : suc j + k ≡ j + suc k = omega arith in
-    subst (λ i. P i x) next (each_from P (suc j) xs h.1 k x e)
+each_from P j (y ∷ xs) h zero x e = grind (arith, same_Some)
+each_from P j (y ∷ xs) h (suc k) x e = grind (arith, each_from P (suc j) xs h.1 k x e)
 
 pub each_at : {X : Type 0} (P : ℕ → X → Type 0) (xs : List X) → EachFrom P 0 xs → (k : ℕ) (x : X)
     → slice_get xs k ≡ Some x → P k x
-each_at P xs h k x e =
-    let here : 0 + k ≡ k = omega arith in
-    subst (λ i. P i x) here (each_from P 0 xs h k x e)
+each_at P xs h k x e = grind (arith, each_from)

@@ -1,6 +1,6 @@
 -- States of several parts: equal parts make equal wholes, what is made part by part, and monoids of two parts side by
 -- side, or seen as another's.
-use Rattle.std.proofs.Common.{◌≡◌, ℕ, List, Option, Some, None, map, sym, ap, ◌∙◌, subst}
+use Rattle.std.proofs.Common.{arith, ◌≡◌, ℕ, List, Option, Some, None, map, sym, ap, ◌∙◌, subst}
 use Rattle.std.specs.Prelude.{slice_get}
 use Rattle.std.specs.Option.{option_map}
 use Rattle.std.proofs.lemmas.Option.{same_Some, slice_get-map}
@@ -47,13 +47,7 @@ pair_monoid m n = record { turned = λ s r. (m.turned s.0 r.0, n.turned s.1 r.1)
 
 pub IsMonoid-pair : {S T : Type 0} (m : Monoid S) (n : Monoid T) (V : S → Type 0) (W : T → Type 0) → IsMonoid m V
     → IsMonoid n W → IsMonoid (pair_monoid m n) (λ s. V s.0 × W s.1)
-IsMonoid-pair m n V W l k = record {
-  kept = λ s r h i. (l.kept s.0 r.0 h.0 i.0, k.kept s.1 r.1 h.1 i.1);
-  solved = (l.solved, k.solved);
-  grouped = λ s r q h i j. ap_both pair (l.grouped s.0 r.0 q.0 h.0 i.0 j.0) (k.grouped s.1 r.1 q.1 h.1 i.1 j.1);
-  solved_first = λ s h. ap_both pair (l.solved_first s.0 h.0) (k.solved_first s.1 h.1);
-  solved_last = λ s h. ap_both pair (l.solved_last s.0 h.0) (k.solved_last s.1 h.1);
-}
+IsMonoid-pair m n V W l k = grind (arith, ap_both)
 
 -- What states are seen as: each shows as one of another monoid, which tells them apart, and turning goes along.
 pub record IsSeenAs {S T : Type 0} (m : Monoid S) (n : Monoid T) (seen : S → T) : Type 0 where
@@ -65,8 +59,7 @@ pub record IsSeenAs {S T : Type 0} (m : Monoid S) (n : Monoid T) (seen : S → T
 pub IsSeenAs-whole : {S T : Type 0} {m : Monoid S} {n : Monoid T} {seen : S → T} (whole : T → S)
     → ((s : S) → whole (seen s) ≡ s) → ((s r : S) → seen (m.turned s r) ≡ n.turned (seen s) (seen r))
     → seen m.solved ≡ n.solved → IsSeenAs m n seen
-IsSeenAs-whole whole again turned solved =
-    record { turned = turned; solved = solved; same = λ s r e. sym (again s) ∙ ap whole e ∙ again r }
+IsSeenAs-whole whole again turned solved = grind arith
 
 -- Valid states that are kept, and which show as those of a monoid, are one: the equations are the other's.
 pub IsMonoid-seen : {S T : Type 0} (m : Monoid S) (n : Monoid T) (seen : S → T) → IsSeenAs m n seen

@@ -1,10 +1,9 @@
 -- Steps of the loops over places, and orbits that are turned by them.
-use Rattle.std.proofs.Common.{Some, map, ◌≡◌, ℕ, zero, suc, ◌+◌, ◌-◌, ◌%◌, ◌<◌, ◌≤◌, List, [], ◌∷◌, length, get_or, take, sym, ap, ◌∙◌, subst, arith, inl, inr}
+use Rattle.std.proofs.Common.{Some, map, ◌≡◌, ℕ, zero, suc, ◌+◌, ◌-◌, ◌%◌, ◌<◌, ◌≤◌, List, [], ◌∷◌, length, get_or, take, sym, ◌∙◌, subst, arith, inl, inr}
 use Rattle.std.proofs.lemmas.List.{ext_get_or, get_or_default}
 use Rattle.std.proofs.lemmas.Bool.{cases_eq}
 use Rattle.std.proofs.Math.Nat.{mod-eq_of_lt, add-mod_right}
 use Rattle.std.specs.List.{All, Contains, slice_get}
-use Rattle.std.specs.Option.{option_map}
 use Rattle.std.proofs.lemmas.Option.{slice_get-map, slice_get-get_or}
 use Rattle.scr_orbit.specs.declared.placed.PlaceTurn.{PlaceTurn}
 use Rattle.scr_orbit.specs.PlaceTurns.{made_by}
@@ -27,10 +26,7 @@ pub sum-below : (m s : ℕ) → s < m → s ≡ s % m
 sum-below m s lt = sym (mod-eq_of_lt lt)
 
 pub sum-above : (m s : ℕ) → m ≤ s → s < m + m → s - m ≡ s % m
-sum-above m s le lt =
-    let less : s - m < m = omega arith in
-    let whole : s - m + m ≡ s = omega arith in
-    sym (mod-eq_of_lt less) ∙ sym (add-mod_right (s - m) m) ∙ ap (λ z. z % m) whole
+sum-above m s le lt = grind (arith, mod-eq_of_lt, add-mod_right)
 
 -- what a list contains occurs in it
 pub occurrences-contained : (xs : List ℕ) (x : ℕ) → Contains xs x → 0 < occurrences x xs
@@ -65,11 +61,7 @@ pub turned_by_places : (n m : ℕ) (o r : Orbit) (pieces digits : List ℕ) → 
     → record { pieces = pieces; digits = digits } ≡ turned_orbit m o r
 unfolding turned_orbit
 turned_by_places n m o r pieces digits long_pieces long_digits long_places long_added each_piece each_digit =
-    let picked = pick o.digits r.pieces in
-    let size : length picked ≡ n = length-pick o.digits r.pieces ∙ long_places in
-    same_orbit _ _ (pick_by_places o.pieces r.pieces pieces (long_pieces ∙ sym long_places) (λ k lt. each_piece k (omega (arith, lt, long_places))))
-    (added_digits_by_places m digits picked r.digits (long_digits ∙ sym size) (size ∙ sym long_added) (λ k lt.
-    each_digit k (omega (arith, lt, size)) ∙ ap (λ d. (d + get_or r.digits k 0) % m) (sym (pick-at o.digits r.pieces k (omega (arith, lt, size, long_places))))))
+    grind (arith, length-pick, same_orbit, pick_by_places, added_digits_by_places, pick-at)
 
 -- what is picked of digits below m is below m
 pub picked_below : (m : ℕ) (ds places picked : List ℕ) → All (λ d. d < m) ds → All (λ k. k < length ds) places
@@ -79,14 +71,10 @@ picked_below m ds places picked low below e = subst (All (λ d. d < m)) (sym e) 
 -- a turn read from a table of turns in arrays
 pub turn-at : {n : ℕ} (ts : List (PlaceTurn n)) (all : List Orbit) (k : ℕ) (d : PlaceTurn n)
     → map made_by ts ≡ all → k < length ts → slice_get all k ≡ Some (made_by (get_or ts k d))
-turn-at ts all k d e lt =
-    ap (λ rs. slice_get rs k) (sym e) ∙ slice_get-map made_by ts k ∙ ap (option_map made_by) (slice_get-get_or ts k d lt)
+turn-at ts all k d e lt = grind (arith, slice_get-map, slice_get-get_or)
 
 -- and the orbit after it
 pub turned-at : {n : ℕ} {all : List Orbit} {o from to : Orbit} (m : ℕ) (ts : List (PlaceTurn n)) (k : ℕ) (d : PlaceTurn n)
     → from ≡ o → map made_by ts ≡ all → k < length ts
     → to ≡ turned_orbit m from (made_by (get_or ts k d)) → IsMadeAt all k (turned_orbit m o) to
-turned-at {all = all} {o = o} m ts k d same e lt made = record {
-  is = ap (option_map (turned_orbit m o)) (turn-at ts all k d e lt)
-      ∙ ap Some (sym (made ∙ ap (λ x. turned_orbit m x (made_by (get_or ts k d))) same));
-}
+turned-at {all = all} {o = o} m ts k d same e lt made = grind (arith, turn-at)

@@ -1,6 +1,6 @@
 -- Puzzles of powers play the letters that a test of powers tells, and no others.
 use Rattle.std.proofs.Common.{◌≡◌, ◌↔◌, inl, inr, Bool, IsTrue, IsSome, List, length, Some, ap, ◌∙◌, arith}
-use Rattle.std.specs.Prelude.{slice_get, option_and_then}
+use Rattle.std.specs.Prelude.{option_and_then}
 use Rattle.std.specs.List.{AllPass}
 use Rattle.std.specs.Option.{option_map}
 use Rattle.std.proofs.lemmas.Option.{slice_get_within, slice_get_cases}
@@ -27,10 +27,7 @@ module _ {S T : Type 0} (p : PowerPuzzle S T) (test : T → Bool) (tells : Tells
 
   is_turn : (t : T) (r : S) → letter_table p t ≡ Some r → IsTrue (test t)
   unfolding power_of
-  is_turn t r e =
-      let letter = and_then-some (power_of p.monoid p.generators) (p.letters.power_at t) r e in
-      let found = map-some (λ g. power p.monoid g letter.0.exponent) (slice_get p.generators letter.0.generator) r letter.2 in
-      tells.only t letter.0 letter.1 (slice_get_within p.generators letter.0.generator found.0 found.1)
+  is_turn t r e = grind (arith, and_then-some, map-some, slice_get_within)
 
   pub TellsTurns-powers : {IsValid : S → Type 0} {opposite : T → T} {merging : Merging T}
       → IsPowerPuzzle p IsValid opposite merging → TellsTurns (after_letter p) IsValid test

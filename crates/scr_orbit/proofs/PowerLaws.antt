@@ -20,8 +20,7 @@ use Rattle.scr_orbit.proofs.MonoidLaws.{IsValid-power, power-add, power-mod, mer
 
 -- what holds of each element holds of the one at a place
 pub All-got : {X : Type 0} (P : X → Type 0) (xs : List X) (k : ℕ) (x : X) → All P xs → slice_get xs k ≡ Some x → P x
-All-got P xs k x each e =
-    subst P (get_or_from_slice_get xs k x x e) (each k x (slice_get_within xs k x e))
+All-got P xs k x each e = grind (arith, get_or_from_slice_get, slice_get_within)
 
 -- ---- the list of all turns
 
@@ -67,16 +66,13 @@ module _ {S : Type 0} (m : Monoid S) (order : ℕ) where
       → length (all_powers m order generators) ≡ (order - 1) * length generators
   unfolding all_powers
   length-all_powers [] = omega arith
-  length-all_powers (r ∷ rs) =
-      let rest : List S = all_powers m order rs in
-      omega (arith, length-append (map (power m r) (numbers_from 1 (order - 1))) rest, powers_length r, length-all_powers rs)
+  length-all_powers (r ∷ rs) = grind (arith, length-append, powers_length, length-all_powers rs)
 
 -- The letter at a number is the power with that number.
 pub power_table-at : {S T : Type 0} (m : Monoid S) (order : ℕ) (generators : List S) (power_at : T → Option Power) (t : T) (g e : ℕ)
     → 0 < e → e < order → power_at t ≡ Some (record { generator = g; exponent = e })
     → power_table m generators power_at t ≡ slice_get (all_powers m order generators) ((order - 1) * g + (e - 1))
-power_table-at m order generators power_at t g e some lt read =
-    ap (option_and_then (power_of m generators)) read ∙ sym (all_powers-at m order generators g e some lt)
+power_table-at m order generators power_at t g e some lt read = grind (arith, all_powers-at)
 
 -- ---- lawful turns
 
@@ -165,8 +161,7 @@ module _ {S T : Type 0} (m : Monoid S) (IsValid : S → Type 0) (l : IsMonoid m 
       ∙ ap (λ x. m.turned x (power m g k)) p.made ∙ ap (m.turned r) other)
 
   pub IsLawful-powers : IsLawful (after_by m (power_table m generators power_at)) opposite merging IsValid
-  IsLawful-powers =
-      IsLawful-table m IsValid l (power_table m generators power_at) IsValid-power_table opposite merging opposites-power_table merges-power_table
+  IsLawful-powers = grind (arith, IsLawful-table, IsValid-power_table, opposites-power_table, merges-power_table)
 
   -- ---- what holds of such a puzzle
 

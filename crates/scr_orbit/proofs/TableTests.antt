@@ -1,5 +1,5 @@
 -- Tests that the checker computes over a table of turns.
-use Rattle.std.proofs.Common.{◌≡◌, ℕ, ◌%◌, ◌<◌, Bool, true, List, length, eqb-true, ltb-true}
+use Rattle.std.proofs.Common.{rules, arith, ◌≡◌, ℕ, ◌%◌, ◌<◌, Bool, true, List, length, eqb-true, ltb-true}
 use Rattle.std.specs.Prelude.{All, ◌==◌, ◌&&◌, nat_lt}
 use Rattle.std.specs.List.{list_all}
 use Rattle.std.specs.Str.{bytes_eq}
@@ -23,10 +23,7 @@ All-from_test p P shows xs h = All-weaker (λ x. p x ≡ true) P shows xs (AllPa
 
 -- what three tests show
 pub and_three : (a b c : Bool) → (a && (b && c)) ≡ true → (a ≡ true) × (b ≡ true) × (c ≡ true)
-and_three a b c h =
-    let parts = and_parts a (b && c) h in
-    let more = and_parts b c parts.1 in
-    (parts.0, more.0, more.1)
+and_three a b c h = grind (arith, and_parts)
 
 -- an orbit of n places, as a test
 abbrev pub is_orbit : ℕ → ℕ → Orbit → Bool
@@ -47,9 +44,7 @@ IsOrbit-from_test n m r h =
 -- and so each turn of a table
 pub All-orbits : (n m : ℕ) (ts : List (PlaceTurn n))
     → list_all (λ t. is_orbit n m (made_by t)) ts ≡ true → All (λ t. IsOrbit n m (made_by t)) ts
-All-orbits n m ts h =
-    All-from_test (λ t. is_orbit n m (made_by t)) (λ t. IsOrbit n m (made_by t))
-    (λ t. IsOrbit-from_test n m (made_by t)) ts h
+All-orbits n m ts h = search (arith, rules, All-from_test, IsOrbit-from_test)
 
 -- the solved one
 abbrev pub is_still : ℕ → Orbit → Bool
@@ -57,9 +52,7 @@ is_still n r = bytes_eq r.pieces (numbers_from 0 n) && bytes_eq r.digits (zeros 
 
 pub still : (n : ℕ) (r : Orbit) → is_still n r ≡ true → r ≡ solved_orbit n
 unfolding solved_orbit
-still n r h =
-    let both = and_parts (bytes_eq r.pieces (numbers_from 0 n)) (bytes_eq r.digits (zeros n)) h in
-    ap_both (λ ks ds. record { pieces = ks; digits = ds }) ((bytes_eq-Decides r.pieces (numbers_from 0 n)).0 both.0) ((bytes_eq-Decides r.digits (zeros n)).0 both.1)
+still n r h = grind (arith, and_parts, ap_both, bytes_eq-Decides)
 
 -- one whose digits sum to 0
 abbrev pub is_zero_sum : ℕ → ℕ → Orbit → Bool
@@ -67,20 +60,12 @@ is_zero_sum n modulus r = is_orbit n modulus r && (total r.digits % modulus == 0
 
 pub IsZeroSumOrbit-from_test : (n m : ℕ) (r : Orbit) → is_zero_sum n m r ≡ true
     → IsZeroSumOrbit n m r
-IsZeroSumOrbit-from_test n m r h =
-    let both = and_parts (is_orbit n m r) (total r.digits % m == 0) h in
-    let is = IsOrbit-from_test n m r both.0 in
-    record {
-      pieces = is.pieces;
-      digits = record { size = is.size; below = is.below; sum_fixed = eqb-true (total r.digits % m) 0 both.1 };
-    }
+IsZeroSumOrbit-from_test n m r h = grind (arith, and_parts, IsOrbit-from_test)
 
 -- and so each turn of a table
 pub All-zero_sum : (n m : ℕ) (ts : List (PlaceTurn n))
     → list_all (λ t. is_zero_sum n m (made_by t)) ts ≡ true → All (λ t. IsZeroSumOrbit n m (made_by t)) ts
-All-zero_sum n m ts h =
-    All-from_test (λ t. is_zero_sum n m (made_by t)) (λ t. IsZeroSumOrbit n m (made_by t))
-    (λ t. IsZeroSumOrbit-from_test n m (made_by t)) ts h
+All-zero_sum n m ts h = search (arith, rules, All-from_test, IsZeroSumOrbit-from_test)
 
 -- ---- digits of pieces that stay at their places
 

@@ -1,7 +1,6 @@
 -- States of puzzles of powers after turns by their numbers.
-use Rattle.std.proofs.Common.{◌≡◌, ℕ, ◌≤◌, Some, length, sym, ap, ◌∙◌}
+use Rattle.std.proofs.Common.{arith, ◌≡◌, ℕ, ◌≤◌, Some, length, ◌∙◌}
 use Rattle.std.specs.Prelude.{slice_get}
-use Rattle.std.specs.Option.{option_map}
 use Rattle.scr_combinatorics.specs.PowerLetters.{HasGenerators}
 use Rattle.scr_combinatorics.specs.Tidy.{Merging}
 use Rattle.scr_combinatorics.proofs.PlayLaws.{map-some}
@@ -23,14 +22,10 @@ module _ {S L : Type 0} (p : PowerPuzzle S L) where
 
   module _ {IsValid : S → Type 0} {opposite : L → L} {merging : Merging L} (law : IsPowerPuzzle p IsValid opposite merging) (s r : S) (n : ℕ) (own : IsValid s) where
     pub IsTurned-at : (q : S) → slice_get (all_turns p) n ≡ Some q → p.monoid.turned s q ≡ r → IsTurned IsValid s n r
-    IsTurned-at q there made =
-        let after = ap (option_map (p.monoid.turned s)) (sym (law.numbered n) ∙ there) ∙ ap Some made in
-        record { valid = law.lawful.kept s r (p.letters.letter_at n) own after; after = after }
+    IsTurned-at q there made = grind arith
 
     pub IsTurned-made : IsMadeAt (all_turns p) n (p.monoid.turned s) r → IsTurned IsValid s n r
-    IsTurned-made made =
-        let q = map-some (p.monoid.turned s) (slice_get (all_turns p) n) r made.is in
-        IsTurned-at q.0 q.1 q.2
+    IsTurned-made made = grind (arith, map-some, IsTurned-at)
 
     -- as it shows
     pub IsTurned-seen : {T : Type 0} {k : Monoid T} {seen : S → T} → IsSeenAs p.monoid k seen

@@ -25,10 +25,6 @@ pub ends_told-some : (n ends : ℕ) → 0 < n → ends_told n ends ≡ ends
 ends_told-some zero ends some = absurd (omega arith)
 ends_told-some (suc n) ends some = refl
 
-pub ends_told-none : (n ends : ℕ) → n ≡ 0 → ends_told n ends ≡ raised ends
-ends_told-none zero ends none = refl
-ends_told-none (suc n) ends none = absurd (omega arith)
-
 -- ---- what a source gives
 
 pub Gives-nothing : {left : Option (List ℕ)} {faults ends : ℕ}

@@ -8,21 +8,10 @@ use Rattle.std.proofs.lemmas.Nat.{mul-add-lt, div-mul-add}
 use Rattle.std.proofs.lemmas.Grind.{div_ceil_times}
 use Rattle.std.specs.Int.{div_ceil}
 use Rattle.std.specs.Cmp.Derive.{both_true}
-use Rattle.scr_positions.specs.Coordinates.{Coordinate, StaysBelow}
+use Rattle.scr_positions.specs.Coordinates.{Coordinate}
 use Rattle.scr_positions.specs.Products.{side_by_side, product_coordinate}
 use Rattle.scr_positions.specs.SearchSpaces.{positions, Follows, ShowsSame}
 use Rattle.scr_positions.proofs.StaysBelowLaws.{part_below}
-
--- two positions side by side are a position
-pub pair_below : (low high : Coordinate) (n p t a b : ℕ) → n ≡ low.count → high.turns ≡ low.turns → StaysBelow low
-    → StaysBelow high → p < low.count * high.count → t < low.turns → low.after (p % n) t ≡ Some a
-    → high.after (p / n) t ≡ Some b → a + n * b < low.count * high.count
-pair_below low high n p t a b e same f g at turn to_a to_b =
-    let parts = part_below low.count high.count p at in
-    let turn' : t < high.turns = omega arith in
-    let a_below = f (p % low.count) t a parts.0 turn (ap (λ k. low.after (p % k) t) (sym e) ∙ to_a) in
-    let b_below = g (p / low.count) t b parts.1 turn' (ap (λ k. high.after (p / k) t) (sym e) ∙ to_b) in
-    omega (arith, mul-add-lt b low.count a high.count b_below a_below, ap (λ k. k * b) e)
 
 -- ---- the parts of a position
 

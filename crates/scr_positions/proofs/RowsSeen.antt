@@ -16,8 +16,3 @@ seen_in_row low high p t first size values below at turn begins long = by_target
     by_target (Some q) e =
         get_or-take size (drop first values) q 0 (omega (arith, below p t q at turn e)) ∙ get_or-drop first values q 0
         ∙ ap (λ k. get_or values k 0) (omega arith)
-
--- nothing is seen where the high part's turn is barred
-pub none_in_row : (n : ℕ) (values : List ℕ) (low : Option ℕ) → value_at values (side_by_side n low None) ≡ 255
-none_in_row n values None = refl
-none_in_row n values (Some q) = refl

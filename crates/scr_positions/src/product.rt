@@ -155,7 +155,10 @@ impl<L: Coord, H: Coord> Coord for Product<L, H> {
         let low_count = self.low.count();
         let low = self.low.after(position % low_count, turn);
         let high = self.high.after(position / low_count, turn);
-        Some(low? + low_count * high?)
+        match (low, high) {
+            (Some(low), Some(high)) => Some(low + low_count * high),
+            _ => None,
+        }
     }
 
     // Positions with the same high part are a row, for which the high part is turned once. What the turn leads to from

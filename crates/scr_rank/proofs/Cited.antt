@@ -10,7 +10,7 @@ use Rattle.scr_rank.proofs.DigitSteps.{pow_small, ranked_by as ranked_by-of-Digi
 use Rattle.scr_rank.proofs.MixedSteps.{base-pos, length-digits, product-drop, product-pos, product_more, ranked_by}
 use Rattle.scr_rank.proofs.PairingSteps.{IsPairing-unranked, WrittenPairs-end, WrittenRest-end, rank_end, rank_step, unranked_end, unranked_more}
 use Rattle.scr_rank.proofs.PermutationSteps.{factorial-small, inversions-drop, inversions-small, unrank_end as unrank_end-of-PermutationSteps, unrank_room, unrank_start, unrank_step}
-use Rattle.scr_rank.proofs.PlaceSetSteps.{binomial-small, count_small, count_step, next_past, next_size, next_takes, rank_here, rank_past, rank_small, ranked_next, ranked_start, rest_number, some_left, unrank_end as unrank_end-of-PlaceSetSteps, unranked_next, unranked_start}
+use Rattle.scr_rank.proofs.PlaceSetSteps.{binomial-small, count_small, count_step, ranked_here, ranked_low, ranked_next, ranked_past, ranked_start, some_left, unrank_end as unrank_end-of-PlaceSetSteps, unranked_next, unranked_past, unranked_start, unranked_takes}
 use Rattle.std.proofs.Common.{add-one}
 use Rattle.std.proofs.lemmas.List.{get_or-take, length-replicate}
 
@@ -48,12 +48,8 @@ pub ruleset unrank_permutation = (unrank_room, unrank_step, unrank_start, unrank
 
 pub ruleset unrank_with_parity = (factorial-small, two_from_half, half_at-only)
 
-pub ruleset choose_rank = (place_set_number-lt)
+pub ruleset choose_rank = (place_set_number-lt, ranked_start, ranked_next, ranked_low, ranked_here, ranked_past)
 
-pub ruleset choose_unrank = (binomial-small, length-replicate, IsPlaceSet-at, only_one, place_sets_one_to_one)
+pub ruleset choose_unrank = (binomial-small, length-replicate, IsPlaceSet-at, place_set_number-at, only_one, place_sets_one_to_one, unranked_start, unranked_next, some_left, unranked_takes, unranked_past, unrank_end-of-PlaceSetSteps)
 
 pub ruleset count_sets = (binomial-above, count_small, count_step)
-
-pub ruleset rank_place_set = (ranked_start, ranked_next, rank_small, next_size, rest_number, rank_here, rank_past)
-
-pub ruleset unrank_place_set = (unranked_start, unranked_next, some_left, next_size, next_takes, next_past, unrank_end-of-PlaceSetSteps, IsPlaceSet-at, place_set_number-at)

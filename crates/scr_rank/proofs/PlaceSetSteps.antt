@@ -73,9 +73,8 @@ next_sets places place size sets few lt within e =
     }
 
 -- a set that takes the place has one place less to come
-pub next_size : (n length chosen chosen' : ℕ) → chosen < length → chosen' ≡ chosen + 1
-    → with_first n (length - chosen) ≡ binomial n (length - chosen')
-next_size n length chosen chosen' lt e = grind arith
+next_size : (n size chosen : ℕ) → chosen < size → with_first n (size - chosen) ≡ binomial n (size - (chosen + 1))
+next_size n size chosen lt = grind arith
 
 -- where none is to come, none has the place
 pub none_left : (n length chosen : ℕ) → length ≤ chosen → with_first n (length - chosen) ≡ 0
@@ -90,7 +89,7 @@ rest_number xs places place passed = place_set_number_from place (places - place
 rest_of : (places place : ℕ) → place < places → places - place ≡ suc (places - (place + 1))
 rest_of places place lt = omega arith
 
-pub rank_here : (xs : List ℕ) (places place passed : ℕ) → place < places → passed < length xs
+rank_here : (xs : List ℕ) (places place passed : ℕ) → place < places → passed < length xs
     → slice_index xs passed ≡ place
     → rest_number xs places place passed ≡ rest_number xs places (place + 1) (passed + 1)
 rank_here xs places place passed lt more here = grind (arith, rest_of, drop_more, number-here, add-one)
@@ -100,117 +99,146 @@ number-past : (place rest : ℕ) (zs : List ℕ) → ((x : ℕ) (ys : List ℕ) 
 number-past place rest [] other = omega (arith, number-empty (suc place) rest)
 number-past place rest (x ∷ ys) other = number-later place rest x ys (other x ys refl)
 
-pub rank_past : (xs : List ℕ) (places place passed : ℕ) → place < places
-    → (passed < length xs → slice_index xs passed ≡ place → ⊥)
-    → rest_number xs places place passed ≡ with_first (places - (place + 1)) (length xs - passed) + rest_number xs places (place + 1) passed
-rank_past xs places place passed lt other = grind (arith, length-drop, drop_more, rest_of, number-past, add-one)
+rank_past : (xs : List ℕ) (places place passed size : ℕ) → length xs ≡ size → place < places
+    → (passed < size → slice_index xs passed ≡ place → ⊥)
+    → rest_number xs places place passed ≡ with_first (places - (place + 1)) (size - passed) + rest_number xs places (place + 1) passed
+rank_past xs places place passed size is lt other =
+    grind (arith, length-drop, drop_more, rest_of, number-past, add-one)
 
-pub rank_small : (places : ℕ) (xs : List ℕ) → places ≤ 12 → IsPlaceSet places (length xs) xs
-    → (place_set_number places xs < 2 ^ 32) × (length xs ≤ 12)
-rank_small places xs few h =
-    let low : place_set_number places xs < binomial places (length xs) = place_set_number-lt places (length xs) xs h in
-    (omega (arith, low, binomial-small places (length xs) few), omega (arith, size_within places (length xs) _ low))
+rank_small : (places size : ℕ) (xs : List ℕ) → places ≤ 12 → IsPlaceSet places size xs
+    → (place_set_number places xs < 2 ^ 32) × (size ≤ 12)
+rank_small places size xs few h =
+    let low : place_set_number places xs < binomial places size = place_set_number-lt places size xs h in
+    (omega (arith, low, binomial-small places size few), omega (arith, size_within places size _ low))
 
 -- ---- the set from a place on
 
 -- what the loop has written, and what it will write
-abbrev pub whole : List ℕ → ℕ → ℕ → ℕ → ℕ → List ℕ
-whole out places place chosen rest = take chosen out ++ place_set_from place (places - place) (length out - chosen) rest
+abbrev whole : ℕ → List ℕ → ℕ → ℕ → ℕ → ℕ → List ℕ
+whole size out places place chosen rest = take chosen out ++ place_set_from place (places - place) (size - chosen) rest
 
-module _ (out : List ℕ) (places place chosen rest : ℕ) (lt : place < places) where
+module _ (size : ℕ) (out : List ℕ) (places place chosen rest : ℕ) (lt : place < places) where
   set-past : (count k : ℕ) → with_first count k ≤ rest
       → place_set_from place (suc count) k rest ≡ place_set_from (suc place) count k (rest - with_first count k)
   set-past count zero high = sym (set-none (suc place) count (rest - 0))
   set-past count (suc k) high = set-skips place count k rest high
 
-  unrank_takes : chosen < length out → rest < with_first (places - (place + 1)) (length out - chosen)
-      → take (chosen + 1) (set out chosen place) ++ place_set_from (place + 1) (places - (place + 1)) (length out - (chosen + 1)) rest ≡ whole out places place chosen rest
-  unrank_takes more low =
+  unrank_takes : chosen < size → length out ≡ size → rest < with_first (places - (place + 1)) (size - chosen)
+      → whole size (set out chosen place) places (place + 1) (chosen + 1) rest ≡ whole size out places place chosen rest
+  unrank_takes more is low =
       let count : ℕ = places - (place + 1) in
-      let k : ℕ = length out - (chosen + 1) in
+      let k : ℕ = size - (chosen + 1) in
       let all : suc count ≡ places - place = omega arith in
-      let some : suc k ≡ length out - chosen = omega arith in
+      let some : suc k ≡ size - chosen = omega arith in
       let low' : rest < binomial count k = omega (arith, low, ap (with_first count) some) in
       let tail : List ℕ = place_set_from (place + 1) count k rest in
-      ap (λ zs. zs ++ tail) (take_more_set out chosen place more)
+      ap (λ zs. zs ++ tail) (take_more_set out chosen place (omega arith))
       ∙ append_assoc (take chosen out) (place ∷ []) tail
       ∙ ap (λ z. take chosen out ++ (place ∷ place_set_from z count k rest)) (add-one place)
       ∙ ap (λ zs. take chosen out ++ zs) (sym (set-takes place count k rest low'))
       ∙ ap (λ z. take chosen out ++ place_set_from place z (suc k) rest) all
       ∙ ap (λ z. take chosen out ++ place_set_from place (places - place) z rest) some
 
-  unrank_past : with_first (places - (place + 1)) (length out - chosen) ≤ rest
-      → whole out places (place + 1) chosen (rest - with_first (places - (place + 1)) (length out - chosen)) ≡ whole out places place chosen rest
+  unrank_past : with_first (places - (place + 1)) (size - chosen) ≤ rest
+      → whole size out places (place + 1) chosen (rest - with_first (places - (place + 1)) (size - chosen)) ≡ whole size out places place chosen rest
   unrank_past high = grind (arith, add-one, set-past)
 
-  -- the same at the values that the code leaves
-  module _ (out' : List ℕ) (chosen' rest' with_place : ℕ) (is : with_place ≡ with_first (places - (place + 1)) (length out - chosen)) where
-    pub next_takes : chosen < length out → rest < with_place → out' ≡ set out chosen place → chosen' ≡ chosen + 1
-        → rest' ≡ rest → whole out' places (place + 1) chosen' rest' ≡ whole out places place chosen rest
-    next_takes more low eo ec er =
-        ap (λ z. whole out' places (place + 1) chosen' z) er
-        ∙ ap (λ z. whole out' places (place + 1) z rest) ec
-        ∙ ap (λ z. whole z places (place + 1) (chosen + 1) rest) eo
-        ∙ ap (λ z. take (chosen + 1) (set out chosen place) ++ place_set_from (place + 1) (places - (place + 1)) (z - (chosen + 1)) rest) (length-set out chosen place)
-        ∙ unrank_takes more (omega arith)
-
-    pub next_past : with_place ≤ rest → out' ≡ out → chosen' ≡ chosen → rest' ≡ rest - with_place
-        → whole out' places (place + 1) chosen' rest' ≡ whole out places place chosen rest
-    next_past high eo ec er =
-        ap (λ z. whole out' places (place + 1) chosen' z) (er ∙ ap (λ z. rest - z) is)
-        ∙ ap (λ z. whole out' places (place + 1) z (rest - with_first (places - (place + 1)) (length out - chosen))) ec
-        ∙ ap (λ z. whole z places (place + 1) chosen (rest - with_first (places - (place + 1)) (length out - chosen))) eo
-        ∙ unrank_past (omega arith)
-
--- at the end the list is written whole
-pub unrank_end : (out : List ℕ) (places place chosen rest number : ℕ) → number < binomial places (length out)
-    → places ≤ place → chosen ≤ length out
-    → whole out places place chosen rest ≡ place_set_at places (length out) number
-    → out ≡ place_set_at places (length out) number
-unrank_end out places place chosen rest number low done within e =
-    let none : places - place ≡ 0 = omega arith in
-    let front : take chosen out ≡ place_set_at places (length out) number =
-    sym (append-nil (take chosen out)) ∙ ap (λ z. take chosen out ++ place_set_from place z (length out - chosen) rest) (sym none) ∙ e in
-    let size : length (take chosen out) ≡ length out = ap length front ∙ (IsPlaceSet-at places (length out) number low).size in
-    sym (take_all chosen out (omega (arith, length-take chosen out))) ∙ front
-
 -- ---- what the loops keep
-
--- the number so far and that of the rest of the set come to the set's number
-pub record IsRanked (xs : List ℕ) (places place passed number sets : ℕ) : Type 0 where
-  pub within : passed ≤ length xs
-  pub sets_left : sets ≡ binomial (places - place) (length xs - passed)
-  pub counted : number + rest_number xs places place passed ≡ place_set_number places xs
 
 start_sets : (places size sets : ℕ) → sets ≡ binomial places size → sets ≡ binomial (places - 0) (size - 0)
 start_sets places size sets e = e ∙ ap (λ n. binomial n size) (omega arith) ∙ ap (binomial (places - 0)) (omega arith)
 
-pub ranked_start : (xs : List ℕ) (places sets : ℕ) → sets ≡ binomial places (length xs) → IsRanked xs places 0 0 0 sets
-ranked_start xs places sets e = grind (arith, start_sets)
+-- the number so far and that of the rest of the set come to the set's number
+pub record IsRanked (xs : List ℕ) (places size place passed number sets : ℕ) : Type 0 where
+  pub within : passed ≤ size
+  pub sets_left : sets ≡ binomial (places - place) (size - passed)
+  pub counted : number + rest_number xs places place passed ≡ place_set_number places xs
 
-pub ranked_next : {xs : List ℕ} {places place passed number sets : ℕ} → places ≤ 12 → IsPlaceSet places (length xs) xs
-    → place < places → IsRanked xs places place passed number sets → NextSets places place (length xs - passed) sets
-ranked_next {xs} {places} {place} {passed} {number} {sets} few valid lt so_far =
-    let small = rank_small places xs few valid in
-    next_sets places place (length xs - passed) sets few lt (omega (arith, small.1)) so_far.sets_left
+pub ranked_start : (xs : List ℕ) (places size sets : ℕ) → sets ≡ binomial places size
+    → IsRanked xs places size 0 0 0 sets
+ranked_start xs places size sets e = grind (arith, start_sets)
+
+module _ {xs : List ℕ} {places size place passed number sets : ℕ} (few : places ≤ 12) (valid : IsPlaceSet places size xs) (lt : place < places) (so_far : IsRanked xs places size place passed number sets) where
+  pub ranked_next : NextSets places place (size - passed) sets
+  ranked_next =
+      next_sets places place (size - passed) sets few lt (omega (arith, (rank_small places size xs few valid).1)) so_far.sets_left
+
+  -- the number fits
+  pub ranked_low : number + sets * (size - passed) / (places - place) < 2 ^ 64
+  ranked_low =
+      omega (arith, (rank_small places size xs few valid).0, so_far.counted, ranked_next.few, ranked_next.with_place, ranked_next.split)
+
+  -- a place of the set
+  pub ranked_here : passed < size → slice_index xs passed ≡ place
+      → IsRanked xs places size (place + 1) (passed + 1) number (sets * (size - passed) / (places - place))
+  ranked_here more here = record {
+    within = omega arith;
+    sets_left = ranked_next.with_place ∙ next_size _ size passed more;
+    counted = omega (arith, so_far.counted, rank_here xs places place passed lt (omega (arith, valid.size)) here);
+  }
+
+  -- and another place
+  pub ranked_past : (passed < size → slice_index xs passed ≡ place → ⊥)
+      → IsRanked xs places size (place + 1) passed (number + sets * (size - passed) / (places - place)) (sets - sets * (size - passed) / (places - place))
+  ranked_past other = record {
+    within = so_far.within;
+    sets_left = omega (arith, ranked_next.with_place, ranked_next.split);
+    counted = omega (arith, ranked_next.with_place, so_far.counted, rank_past xs places place passed size valid.size lt other);
+  }
 
 -- what is written and what is to come is the set
-pub record IsUnranked (number places : ℕ) (out : List ℕ) (place chosen rest sets : ℕ) : Type 0 where
-  pub within : chosen ≤ length out
-  pub sets_left : sets ≡ binomial (places - place) (length out - chosen)
-  pub written : whole out places place chosen rest ≡ place_set_at places (length out) number
+pub record IsUnranked (number places size : ℕ) (out : List ℕ) (place chosen rest sets : ℕ) : Type 0 where
+  pub length_is : length out ≡ size
+  pub within : chosen ≤ size
+  pub sets_left : sets ≡ binomial (places - place) (size - chosen)
+  pub written : whole size out places place chosen rest ≡ place_set_at places size number
 
-pub unranked_start : (number places : ℕ) (out : List ℕ) (sets : ℕ) → sets ≡ binomial places (length out)
-    → IsUnranked number places out 0 0 number sets
+pub unranked_start : (number places size : ℕ) (out : List ℕ) (sets : ℕ) → length out ≡ size
+    → sets ≡ binomial places size → IsUnranked number places size out 0 0 number sets
 unfolding place_set_at
-unranked_start number places out sets e = grind (arith, start_sets)
+unranked_start number places size out sets is e = grind (arith, start_sets)
 
-pub unranked_next : {number places : ℕ} {out : List ℕ} {place chosen rest sets : ℕ} {all : ℕ} → places ≤ 12
-    → length out ≡ all → number < binomial places all → place < places
-    → IsUnranked number places out place chosen rest sets → NextSets places place (length out - chosen) sets
-unranked_next {number} {places} {out} {place} {chosen} {rest} {sets} {all} few size below lt so_far =
-    next_sets places place (length out - chosen) sets few lt (omega (arith, size_within places all number below)) so_far.sets_left
+module _ {number places size : ℕ} {out : List ℕ} {place chosen rest sets : ℕ} (few : places ≤ 12) (below : number < binomial places size) (lt : place < places) (so_far : IsUnranked number places size out place chosen rest sets) where
+  pub unranked_next : NextSets places place (size - chosen) sets
+  unranked_next =
+      next_sets places place (size - chosen) sets few lt (omega (arith, size_within places size number below)) so_far.sets_left
 
--- where a number is below that of the sets with the place, some place is still to come
-pub some_left : (n length chosen number : ℕ) → number < with_first n (length - chosen) → chosen < length
-some_left n length chosen number lt = grind (arith, cases_lt, none_left)
+  -- where a number is below that of the sets with the place, some place is still to come
+  pub some_left : rest < sets * (size - chosen) / (places - place) → chosen < size
+  some_left low =
+      elim (cases_lt chosen size) [
+        | inl more ↦ more
+        | inr none ↦ absurd (omega (arith, unranked_next.with_place, none_left (places - (place + 1)) size chosen none))
+      ]
+
+  -- the set has the place
+  pub unranked_takes : rest < sets * (size - chosen) / (places - place)
+      → IsUnranked number places size (set out chosen place) (place + 1) (chosen + 1) rest (sets * (size - chosen) / (places - place))
+  unranked_takes low = record {
+    length_is = length-set out chosen place ∙ so_far.length_is;
+    within = omega (arith, some_left low);
+    sets_left = unranked_next.with_place ∙ next_size _ size chosen (some_left low);
+    written = unrank_takes size out places place chosen rest lt (some_left low) so_far.length_is (omega (arith, unranked_next.with_place)) ∙ so_far.written;
+  }
+
+  -- or lacks it
+  pub unranked_past : sets * (size - chosen) / (places - place) ≤ rest
+      → IsUnranked number places size out (place + 1) chosen (rest - sets * (size - chosen) / (places - place)) (sets - sets * (size - chosen) / (places - place))
+  unranked_past high = record {
+    length_is = so_far.length_is;
+    within = so_far.within;
+    sets_left = omega (arith, unranked_next.with_place, unranked_next.split);
+    written = ap (λ z. whole size out places (place + 1) chosen (rest - z)) unranked_next.with_place
+        ∙ unrank_past size out places place chosen rest lt (omega (arith, unranked_next.with_place))
+        ∙ so_far.written;
+  }
+
+-- at the end the list is written whole
+pub unrank_end : (number places size : ℕ) (out : List ℕ) (place chosen rest sets : ℕ) → number < binomial places size
+    → places ≤ place → IsUnranked number places size out place chosen rest sets → out ≡ place_set_at places size number
+unrank_end number places size out place chosen rest sets low done u =
+    let none : places - place ≡ 0 = omega arith in
+    let front : take chosen out ≡ place_set_at places size number =
+    sym (append-nil (take chosen out)) ∙ ap (λ z. take chosen out ++ place_set_from place z (size - chosen) rest) (sym none) ∙ u.written in
+    let all : length (take chosen out) ≡ size = ap length front ∙ (IsPlaceSet-at places size number low).size in
+    sym (take_all chosen out (omega (arith, u.length_is, length-take chosen out))) ∙ front

@@ -1,5 +1,5 @@
 //! Sets of places, as increasing lists, and their numbers.
-ghost use Rattle.std.specs.Prelude.{◌≡◌, ℕ, ◌<◌, ◌≤◌, List, length};
+ghost use Rattle.std.specs.Prelude.{◌≡◌, ℕ, ◌<◌, ◌≤◌, List};
 ghost use Rattle.scr_combinatorics.specs.PlaceSets.{binomial, IsPlaceSet, place_set_number, place_set_at};
 
 /// How many sets of `size` of `places` places there are, for up to 12 places.
@@ -18,59 +18,11 @@ pub fn count_sets(places: usize, size: usize) -> u64
     count
 }
 
-/// The number of a set of places, an increasing list, in dictionary order from 0.
-#[tactic(auto, using(crate::proofs::Cited::rank_place_set))]
-pub fn rank_place_set(set: &[u8], places: usize) -> u64
-    requires few { places ≤ 12 }
-    requires valid { IsPlaceSet places (length set.now) set.now }
-    ensures { result ≡ place_set_number places set.now }
-{
-    let mut number: u64 = 0;
-    let mut passed: usize = 0;
-    let mut sets = count_sets(places, set.len());
-    for place in 0..places {
-        let with_place = sets * (set.len() - passed) as u64 / (places - place) as u64;
-        if passed < set.len() && set[passed] as usize == place {
-            passed += 1;
-            sets = with_place;
-        } else {
-            number += with_place;
-            sets -= with_place;
-        }
-    }
-    number
-}
-
-/// Fills `out` with the set of as many places that has this number, in increasing order.
-#[tactic(auto, using(crate::proofs::Cited::unrank_place_set))]
-pub fn unrank_place_set(number: u64, places: usize, out: &mut [u8])
-    requires few { places ≤ 12 }
-    requires below { number < binomial places (length out.old) }
-    ensures list { out.new ≡ place_set_at places (length out.old) number }
-    ensures valid { IsPlaceSet places (length out.old) out.new }
-    ensures number { place_set_number places out.new ≡ number }
-{
-    let mut rest = number;
-    let mut chosen: usize = 0;
-    let mut sets = count_sets(places, out.len());
-    for place in 0..places {
-        let with_place = sets * (out.len() - chosen) as u64 / (places - place) as u64;
-        if rest < with_place {
-            out[chosen] = place as u8;
-            chosen += 1;
-            sets = with_place;
-        } else {
-            rest -= with_place;
-            sets -= with_place;
-        }
-    }
-}
-
 /// The sets of `K` of `N` places, as increasing lists in dictionary order: `N` over `K` of them.
 pub struct Choose<const N: usize, const K: usize>;
 
 impl<const N: usize, const K: usize> Choose<N, K> {
-    /// The number of a set, below `N` over `K`, for `N` up to 12.
+    /// The number of a set, from 0 and below `N` over `K`, for `N` up to 12.
     #[tactic(auto, using(crate::proofs::Cited::choose_rank))]
     pub fn rank(value: &[u8; K]) -> u128
         requires size { N ≤ 12 }
@@ -78,7 +30,20 @@ impl<const N: usize, const K: usize> Choose<N, K> {
         ensures number { result ≡ place_set_number N value.now }
         ensures below { result < binomial N K }
     {
-        u128::from(rank_place_set(&value[..], N))
+        let mut number: u64 = 0;
+        let mut passed: usize = 0;
+        let mut sets = count_sets(N, K);
+        for place in 0..N {
+            let with_place = sets * (K - passed) as u64 / (N - place) as u64;
+            if passed < K && value[passed] as usize == place {
+                passed += 1;
+                sets = with_place;
+            } else {
+                number += with_place;
+                sets -= with_place;
+            }
+        }
+        u128::from(number)
     }
 
     /// The set with a number below `N` over `K`, for `N` up to 12.
@@ -93,7 +58,20 @@ impl<const N: usize, const K: usize> Choose<N, K> {
             → IsPlaceSet N K value → place_set_number N value ≡ number → result ≡ value }
     {
         let mut out = [0; K];
-        unrank_place_set(number as u64, N, &mut out[..]);
+        let mut rest = number as u64;
+        let mut chosen: usize = 0;
+        let mut sets = count_sets(N, K);
+        for place in 0..N {
+            let with_place = sets * (K - chosen) as u64 / (N - place) as u64;
+            if rest < with_place {
+                out[chosen] = place as u8;
+                chosen += 1;
+                sets = with_place;
+            } else {
+                rest -= with_place;
+                sets -= with_place;
+            }
+        }
         out
     }
 }

@@ -1,5 +1,5 @@
 -- What is so of a table that is built over moves, is so of the coordinate that these show.
-use Rattle.std.proofs.Common.{◌≡◌, ℕ, ◌*◌, ◌^◌, ◌<◌, Bool, true, false, List, [], ◌∷◌, Result, Some, refl, sym, ap, ◌∙◌, subst, arith}
+use Rattle.std.proofs.Common.{◌≡◌, ℕ, ◌*◌, ◌^◌, ◌<◌, Bool, true, false, List, [], ◌∷◌, Result, Some, sym, ap, ◌∙◌, subst, arith}
 use Rattle.std.specs.Prelude.{IfOk, slice_get}
 use Rattle.std.specs.Option.{option_map}
 use Rattle.std.proofs.lemmas.Result.{IfOk-weaker}
@@ -20,10 +20,6 @@ pub ShowsSame-beside : (b : Bool) (l h low high : Coordinate) → h.turns ≡ l.
     → ShowsSame (beside b l h) (beside b low high)
 ShowsSame-beside false l h low high turns f g = ShowsSame-product l h low high turns f g
 ShowsSame-beside true l h low high turns f g = ShowsSame-product h l high low (sym turns) g f
-
-count-beside : (b : Bool) (low high : Coordinate) → (beside b low high).count ≡ low.count * high.count
-count-beside false low high = refl
-count-beside true low high = omega arith
 
 -- what is asked of the moves that stand side by side
 pub fits-beside : (l h low high : Coordinate) (n m turns : ℕ) → l.turns ≡ turns → h.turns ≡ turns → l.count ≡ n

@@ -73,14 +73,20 @@ impl<P: Part> Search<'_, P> {
             return P::give(self.rest, self.cube, word);
         }
         let mut turns = self.tables.turns_behind(word, at, left);
+        if turns.bits == 0 {
+            return false;
+        }
+        // The word is made longer once, and each turn is written into the same place.
+        let depth = word.len();
+        word.push(0);
         while let Some(place) = turns.pop() {
             let next = self.tables.after(at, place);
-            word.push(P::extent().numbers[place as usize]);
+            word[depth] = P::extent().numbers[place as usize];
             if self.behind(word, next, left - 1, tries) {
                 return true;
             }
-            word.pop();
         }
+        word.pop();
         false
     }
 }

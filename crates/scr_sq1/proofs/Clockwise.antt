@@ -1,4 +1,5 @@
 -- Twelfths of a turn, counted clockwise from 0 to 11.
+use Rattle.std.proofs.Common.{rules}
 use Rattle.std.proofs.Common.{◌≡◌, ℕ, ◌+◌, ◌*◌, ◌/◌, ◌%◌, ◌<◌, arith}
 use Rattle.std.proofs.lemmas.Bool.Decides.{nat_tests}
 use Rattle.std.specs.Prelude.{ℤ, pos, negsuc, neg_ℤ, ◌+ℤ◌}
@@ -26,8 +27,7 @@ clockwise-only (pos m) n lt h = omega (arith, ints, h.same)
 clockwise-only (negsuc m) n lt h = omega (arith, ints, h.same)
 
 pub clockwise-twelfths : (z : ℤ) → clockwise (twelfths z) ≡ clockwise z
-clockwise-twelfths z =
-    grind (arith, nat_tests, AreTwelfths-twelfths, IsClockwise-clockwise, clockwise-only, clockwise-lt, ints)
+clockwise-twelfths z = search (arith, rules, AreTwelfths-twelfths, IsClockwise-clockwise, clockwise-only, clockwise-lt)
 
 pub clockwise-sum : (x z : ℤ) → clockwise (x +ℤ z) ≡ (clockwise x + clockwise z) % 12
 clockwise-sum x z = grind (arith, nat_tests, IsClockwise-clockwise, clockwise-only, ints)

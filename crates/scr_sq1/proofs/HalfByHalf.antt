@@ -32,38 +32,12 @@ module _ (n : ℕ) (us : List ℕ) (h : ArePaired (suc n) us) where
 
   first_half : IsWhole (take 6 us)
   first_half =
-      let at = λ (k : ℕ) (lt : k < 6). get_or-take 6 us k 0 lt in
-      record {
-        partners = λ i lt corner. elim (h.partners i (omega (arith, first_size)) (omega (arith, at i (omega (arith, first_size))))) [
-          | inl p ↦
-              let inside : suc i < 6 = omega (arith, first_size, p.0) in
-              inl (omega (arith, first_size), at (suc i) inside ∙ p.1 ∙ sym (at i (omega (arith, first_size))))
-          | inr p ↦ inr (p.0, p.1, at p.0 (omega (arith, first_size, p.1)) ∙ p.3 ∙ sym (at i (omega (arith, first_size))))
-        ];
-        no_third = λ i lt corner e f.
-            let low : suc (suc i) < 6 = omega (arith, first_size) in
-            let here = at i (omega arith) in
-            h.no_third i (omega arith) (omega (arith, here)) (sym (at (suc i) (omega arith)) ∙ e ∙ here) (sym (at (suc (suc i)) low) ∙ f ∙ here);
-      }
+      let at = λ (k : ℕ) (lt : k < 6). get_or-take 6 us k 0 lt in grind (arith, nat_tests, first_size, no_third)
 
   other_halves : ArePaired n (drop 6 us)
   other_halves =
       let at = λ (k : ℕ). get_or-drop 6 us k 0 in
-      let later : (k : ℕ) → slice_index us (6 + suc k) ≡ slice_index us (suc (6 + k)) = λ k. ap (λ i. slice_index us i) (omega arith) in
-      record {
-        size = omega (arith, length-drop 6 us, h.size);
-        partners = λ k lt corner. elim (h.partners (6 + k) (omega arith) (omega (arith, at k))) [
-          | inl p ↦ inl (omega (arith, p.0), at (suc k) ∙ later k ∙ p.1 ∙ sym (at k))
-          | inr p ↦
-              let j : ℕ = p.0 - 6 in
-              let whole : 6 + j ≡ p.0 = omega (arith, p.1, p.2) in
-              inr (j, omega (arith, p.1, whole), omega (arith, p.2, whole), at j ∙ ap (λ i. slice_index us i) whole ∙ p.3 ∙ sym (at k))
-        ];
-        no_third = λ k lt corner e f.
-            h.no_third (6 + k) (omega arith) (omega (arith, at k))
-            (sym (at (suc k) ∙ later k) ∙ e ∙ at k)
-            (sym (at (suc (suc k)) ∙ later (suc k) ∙ ap (λ i. slice_index us (suc i)) (omega arith)) ∙ f ∙ at k);
-      }
+      let later : (k : ℕ) → slice_index us (6 + suc k) ≡ slice_index us (suc (6 + k)) = λ k. ap (λ i. slice_index us i) (omega arith) in grind (arith, nat_tests, length-drop, no_third)
 
 -- ---- the pieces of such units
 
@@ -93,14 +67,7 @@ first_pieces n us h =
     ∙ ap (λ bits. place_of bits half_bits) (ap corner_bits p.are.is ∙ corner_bits-laid p.word p.corners p.edges p.are.fits p.are.below) in
     let half = IsHalf-word p.word six in
     let word : p.word ≡ half_word (half_of first) = sym half.again ∙ ap half_word (sym number) in
-    let low : half_of first < 13 = omega (arith, number, half.below) in
-    record {
-      corners = p.corners;
-      edges = p.edges;
-      below = low;
-      are = subst (λ w. IsLaid first w p.corners p.edges) word p.are;
-      counted = (IsKnownHalf-below (half_of first) low).corners ∙ ap corners_among (sym word) ∙ p.are.fits.corners;
-    }
+    let low : half_of first < 13 = omega (arith, number, half.below) in grind (arith, nat_tests, IsKnownHalf-below)
 
 pub HalfPieces-paired : (n : ℕ) (us : List ℕ) → ArePaired n us → HalfPieces n us
 unfolding halves_in shape_word
@@ -115,11 +82,7 @@ HalfPieces-paired (suc n) us h =
       edges = p.edges ++ q.edges;
       are = subst (λ vs. IsLaid vs (half_word first ++ shape_word others) (p.corners ++ q.corners) (p.edges ++ q.edges)) (take-append-drop 6 us)
           (IsLaid-append (take 6 us) (drop 6 us) (half_word first) (shape_word others) p.corners q.corners p.edges q.edges p.are q.are);
-      halves = record {
-        size = ap suc q.halves.size;
-        below = All-cons (λ h. h < 13) first others p.below q.halves.below;
-        corners = omega (arith, p.counted, q.halves.corners, length-append p.corners q.corners);
-      };
+      halves = grind (arith, nat_tests, All-cons, length-append);
     }
 
 -- ---- the units of a shape's pieces
@@ -140,10 +103,7 @@ Parted-fits h hs cs es f =
     let e : ℕ = edges_among w in
     let all_corners : c + corners_among v ≡ length cs = sym (ap corners_among (shape_word-cons h hs) ∙ corners_among-append w v) ∙ f.corners in
     let all_edges : e + edges_among v ≡ length es = sym (ap edges_among (shape_word-cons h hs) ∙ edges_among-append w v) ∙ f.edges in
-    let here : Fits w (take c cs) (take e es) = record {
-      corners = sym (length-take-le c cs (omega arith));
-      edges = sym (length-take-le e es (omega arith));
-    } in
+    let here : Fits w (take c cs) (take e es) = grind (arith, nat_tests, length-take-le) in
     record {
       first = here;
       others = record { corners = omega (arith, length-drop c cs); edges = omega (arith, length-drop e es) };
@@ -185,9 +145,7 @@ ShapeUnits-laid (h ∷ hs) cs es low below f =
     record {
       partners = λ k lt corner. subst (λ xs. HasPartner xs k) (sym parts.units)
           (elim (cases_lt k 6) [
-            | inl inside ↦
-                HasPartner-first us vs k six inside (FillsNext-laid w (take c cs) (take e es) parts.first k (omega arith)
-                (omega (arith, ap (λ xs. slice_index xs k) parts.units, get_or_append_left us vs 0 k (omega arith))))
+            | inl inside ↦ (grind (arith, nat_tests, HasPartner-first, FillsNext-laid, get_or_append_left))
             | inr behind ↦
                 let j : ℕ = k - 6 in
                 let is : 6 + j ≡ k = omega arith in

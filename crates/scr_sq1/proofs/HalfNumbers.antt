@@ -1,4 +1,6 @@
 -- The numbers of halves with so many corners, and so of shapes.
+use Rattle.std.proofs.lemmas.Grind.{common_steps}
+use Rattle.std.proofs.Common.{rules}
 use Rattle.std.proofs.Common.{◌≡◌, ℕ, zero, suc, ◌+◌, ◌-◌, ◌<◌, ◌≤◌, inl, inr, IsTrue, cond, List, [], ◌∷◌, ◌++◌, map, length, take, slice_index, refl, sym, ap, ◌∙◌, subst, arith}
 use Rattle.std.proofs.lemmas.Bool.Decides.{nat_tests}
 use Rattle.std.specs.Prelude.{◌==◌, nat_le, nat_lt, filter, flat_map}
@@ -53,8 +55,7 @@ module _ (f : ℕ → ℕ) where
       → (let p : ℕ × ℕ = (i, r) in run_of f ks (total (map f (take i ks)) + r) ≡ p)
   run_of-put [] i r lt inside = absurd (omega arith)
   run_of-put (k ∷ ks) zero r lt inside = ap (run_of f (k ∷ ks)) {x = 0 + r} {y = r} (omega arith) ∙ run_of-here k ks r inside
-  run_of-put (k ∷ ks) (suc i) r lt inside =
-      grind (arith, nat_tests, run_of-later, run_of-put ks i r (omega arith) inside)
+  run_of-put (k ∷ ks) (suc i) r lt inside = search (arith, rules, run_of-later, run_of-put ks i r (omega arith) inside)
 
   -- a sum with one run more
   pub total-more : (ks : List ℕ) (i : ℕ) → i < length ks
@@ -87,11 +88,7 @@ pub record StartsWith (n c h : ℕ) (hs : List ℕ) : Type 0 where
   pub others : AreHalves n (c - corner_count h) hs
 
 pub StartsWith-halves : (n c h : ℕ) (hs : List ℕ) → AreHalves (suc n) c (h ∷ hs) → StartsWith n c h hs
-StartsWith-halves n c h hs a = record {
-  below = All-head (λ x. x < 13) h hs a.below;
-  few = omega (arith, a.corners);
-  others = record { size = omega (arith, a.size); below = All-tail (λ x. x < 13) h hs a.below; corners = omega (arith, a.corners) };
-}
+StartsWith-halves n c h hs a = search (arith, rules, All-head, All-tail)
 
 pub AreHalves-starts : (n c h : ℕ) (hs : List ℕ) → StartsWith n c h hs → AreHalves (suc n) c (h ∷ hs)
 AreHalves-starts n c h hs s = grind (arith, nat_tests, All-cons)
@@ -111,8 +108,7 @@ ways-suc n c = grind (arith, nat_tests, le-leb)
 pub ways_after-few : (n c k : ℕ) → k ≤ c → ways_after n c k ≡ ways_to_have n (c - k)
 unfolding ways_after
 ways_after-few zero c k le = grind (arith, nat_tests, eq-eqb, ne_eqb)
-ways_after-few (suc n) c k le =
-    cond-true (nat_le k c) (total (map (ways_after n (c - k)) corner_counts)) 0 (le-leb k c le) ∙ sym (ways-suc n (c - k))
+ways_after-few (suc n) c k le = search (arith, rules, cond-true, le-leb, ways-suc)
 
 pub ways_after-many : (n c k : ℕ) → c < k → ways_after n c k ≡ 0
 unfolding ways_after
@@ -138,13 +134,7 @@ pub halves_number-lt : (n c : ℕ) (hs : List ℕ) → AreHalves n c hs → halv
 unfolding halves_number
 halves_number-lt zero c [] a = omega (arith, ways-none c, cond-true {A = ℕ} (c == 0) 1 0 (eq-eqb c 0 (sym a.corners)))
 halves_number-lt (suc n) c (h ∷ hs) a =
-    let s = StartsWith-halves n c h hs a in
-    omega (
-      arith,
-      halves_number-cons n c h hs s.others.size,
-      halves_number-lt n (c - corner_count h) hs s.others,
-      run_within n c h s.below s.few,
-    )
+    let s = StartsWith-halves n c h hs a in grind (arith, nat_tests, halves_number-cons, corner_count, run_within, halves_number-lt n (c - corner_count h) hs s.others)
 halves_number-lt _ c _ a = absurd (omega (arith, a.size))
 
 -- ---- the halves of a number
@@ -167,16 +157,7 @@ first_half n c r lt =
     let rest : ℕ = (run_of f corner_counts r).1 in
     let inside : rest < f (corner_count h) = omega (arith, falls.inside, ap f (corner_count-at h)) in
     let few : corner_count h ≤ c =
-    elim (cases_lt c (corner_count h)) [ inl many ↦ absurd (omega (arith, ways_after-many n c (corner_count h) many)) | inr le ↦ le ] in
-    record {
-      half = h;
-      rest = rest;
-      is = refl;
-      below = omega (arith, falls.run, length-corner_counts);
-      few = few;
-      inside = omega (arith, ways_after-few n c (corner_count h) few);
-      whole = falls.whole;
-    }
+    elim (cases_lt c (corner_count h)) [ inl many ↦ absurd (omega (arith, ways_after-many n c (corner_count h) many)) | inr le ↦ le ] in grind (arith, nat_tests, length-corner_counts, ways_after-few, corner_count)
 
 pub halves_at-suc : (n c r : ℕ) (f : FirstHalf n c r)
     → halves_at (suc n) c r ≡ f.half ∷ halves_at n (c - corner_count f.half) f.rest
@@ -193,11 +174,7 @@ HasNumber-at zero c r lt = grind (arith, nat_tests, ways-none, ne_eqb, All-nil, 
 HasNumber-at (suc n) c r lt =
     let f = first_half n c r lt in
     let rest = HasNumber-at n (c - corner_count f.half) f.rest f.inside in
-    let others : List ℕ = halves_at n (c - corner_count f.half) f.rest in
-    subst (HasNumber (suc n) c r) (sym (halves_at-suc n c r f)) (record {
-      halves = AreHalves-starts n c f.half others (record { below = f.below; few = f.few; others = rest.halves });
-      number = omega (arith, halves_number-cons n c f.half others rest.halves.size, rest.number, f.whole);
-    })
+    let others : List ℕ = halves_at n (c - corner_count f.half) f.rest in grind (arith, nat_tests, halves_at-suc, AreHalves-starts, halves_number-cons)
 
 pub halves_at-number : (n c : ℕ) (hs : List ℕ) → AreHalves n c hs → halves_at n c (halves_number c hs) ≡ hs
 unfolding halves_at
@@ -206,13 +183,7 @@ halves_at-number (suc n) c (h ∷ hs) a =
     let s = StartsWith-halves n c h hs a in
     let rest : ℕ = halves_number (c - corner_count h) hs in
     let f = ways_after n c in
-    let inside : rest < f (slice_index corner_counts h) =
-    omega (
-      arith,
-      halves_number-lt n (c - corner_count h) hs s.others,
-      ways_after-few n c (corner_count h) s.few,
-      ap f (corner_count-at h),
-    ) in
+    let inside : rest < f (slice_index corner_counts h) = omega (arith, halves_number-lt, corner_count, ways_after-few, corner_count-at) in
     ap (halves_at (suc n) c) (halves_number-cons n c h hs s.others.size)
     ∙ ap (λ p. p.0 ∷ halves_at n (c - corner_count p.0) p.1) (run_of-put f corner_counts h rest (omega (arith, length-corner_counts, s.below)) inside)
     ∙ ap (λ xs. h ∷ xs) (halves_at-number n (c - corner_count h) hs s.others)
@@ -266,9 +237,7 @@ module _ (c : ℕ) (xss : List (List ℕ)) (f : ℕ → ℕ) (sizes : (h : ℕ) 
 
   before-more : (s : ℕ) → s < 13 → before (suc s) ≡ before s + f (corner_count s)
   unfolding before
-  before-more s lt =
-      ap (λ i. total (map f (take i corner_counts))) {x = suc s} {y = s + 1} (omega arith)
-      ∙ total-more f corner_counts s (omega (arith, length-corner_counts))
+  before-more s lt = grind (arith, nat_tests, common_steps, total-more, length-corner_counts)
 
   length_from : (m s : ℕ) → s + m ≡ 13
       → before s + length (flat_map (λ h. with_first c h xss) (numbers_from s m)) ≡ before 13
@@ -283,13 +252,7 @@ module _ (c : ℕ) (xss : List (List ℕ)) (f : ℕ → ℕ) (sizes : (h : ℕ) 
   place_from h hs lt found (suc m) s e le =
       let rest : List (List ℕ) = flat_map (λ g. with_first c g xss) (numbers_from (suc s) m) in
       elim (cases_lt s h) [
-        | inl lower ↦ omega (
-          arith,
-          place_behind c s h hs xss rest lower,
-          sizes s,
-          before-more s (omega arith),
-          place_from h hs lt found m (suc s) (omega arith) (omega arith),
-        )
+        | inl lower ↦ (omega (arith, place_behind, before-more, place_from h hs lt found m (suc s) (omega arith) (omega arith)))
         | inr same ↦
             ap (λ i. before i + place_in (h ∷ hs) (with_first c i xss ++ rest)) {x = s} {y = h} (omega arith)
             ∙ ap (λ p. before h + p) (place_stays (h ∷ hs) (with_first c h xss) rest found)
@@ -321,9 +284,7 @@ listed-place (suc n) c (h ∷ hs) a =
     let k : ℕ = corner_count h in
     let xss : List (List ℕ) = words_of (numbers_from 0 13) n in
     let sizes = listed_sizes n (listed-length n) c in
-    let here : place_in (h ∷ hs) (with_first c h xss) ≡ halves_number (c - k) hs =
-    ap (place_in (h ∷ hs)) (with_first-few c h xss s.few) ∙ place_of_same h hs (with_corners (c - k) xss)
-    ∙ listed-place n (c - k) hs s.others in
+    let here : place_in (h ∷ hs) (with_first c h xss) ≡ halves_number (c - k) hs = grind (arith, nat_tests, with_first-few, place_of_same, listed-place n (c - k) hs s.others) in
     let found : place_in (h ∷ hs) (with_first c h xss) < length (with_first c h xss) =
     omega (arith, here, halves_number-lt n (c - k) hs s.others, sizes h, ways_after-few n c k s.few) in
     let whole : place_in (h ∷ hs) (flat_map (λ g. with_first c g xss) (numbers_from 0 13))
@@ -343,13 +304,7 @@ shape_number-halves hs shape = listed-place 4 8 hs shape
 -- the number of a shape whose halves are known
 pub shape_number-known : (hs : List ℕ) (number : ℕ) → length hs ≡ 4 → IsTrue (list_all (λ h. nat_lt h 13) hs)
     → total (pick corner_counts hs) ≡ 8 → halves_number 8 hs ≡ number → shape_number hs ≡ number
-shape_number-known hs number size below corners is =
-    shape_number-halves hs (record {
-      size = size;
-      below = All-from_test (λ h. nat_lt h 13) (λ h. h < 13) (λ h. ltb-true h 13) hs below;
-      corners = corners;
-    })
-    ∙ is
+shape_number-known hs number size below corners is = search (arith, rules, shape_number-halves, All-from_test, ltb-true)
 
 pub ways_of_shapes : ways_to_have 4 8 ≡ 3678
 unfolding half_words corner_counts ways_after
@@ -361,8 +316,7 @@ unfolding shape_at
 shapes_one_to_one = record {
   valid = λ r lt. (HasNumber-at 4 8 r (omega (arith, ways_of_shapes))).halves;
   below = λ hs a. omega (arith, shape_number-halves hs a, halves_number-lt 4 8 hs a, ways_of_shapes);
-  number_again = λ r lt.
-      let at = HasNumber-at 4 8 r (omega (arith, ways_of_shapes)) in shape_number-halves (halves_at 4 8 r) at.halves ∙ at.number;
+  number_again = λ r lt. grind (arith, nat_tests, HasNumber-at, ways_of_shapes, shape_number-halves);
   state_again = λ hs a. ap (halves_at 4 8) (shape_number-halves hs a) ∙ halves_at-number 4 8 hs a;
 }
 
@@ -387,17 +341,8 @@ halves_number-order (suc n) c (h ∷ hs) (g ∷ gs) a b (inl lt) =
 halves_number-order (suc n) c (h ∷ hs) (g ∷ gs) a b (inr both) =
     let s = StartsWith-halves n c h hs a in
     let t = StartsWith-halves n c g gs b in
-    let hs_again : AreHalves n (c - corner_count g) hs = subst (λ x. AreHalves n (c - corner_count x) hs) both.0 s.others in
-    omega (
-      arith,
-      halves_number-cons n c h hs s.others.size,
-      halves_number-cons n c g gs t.others.size,
-      ap (numbers_before n c) both.0,
-      ap (λ x. halves_number (c - corner_count x) hs) both.0,
-      halves_number-order n (c - corner_count g) hs gs hs_again t.others both.1,
-    )
+    let hs_again : AreHalves n (c - corner_count g) hs = subst (λ x. AreHalves n (c - corner_count x) hs) both.0 s.others in grind (arith, nat_tests, halves_number-cons, corner_count, halves_number-order n (c - corner_count g) hs gs hs_again t.others both.1)
 
 pub shape_number-order : (hs gs : List ℕ) → IsShape hs → IsShape gs → ComesBefore hs gs
     → shape_number hs < shape_number gs
-shape_number-order hs gs a b before =
-    omega (arith, shape_number-halves hs a, shape_number-halves gs b, halves_number-order 4 8 hs gs a b before)
+shape_number-order hs gs a b before = search (arith, rules, shape_number-halves, halves_number-order, before)

@@ -1,5 +1,6 @@
 -- The thirteen halves are all the ways to fill six units; which half six units are is told by the bits of their
 -- corners.
+use Rattle.std.proofs.Common.{rules}
 use Rattle.std.proofs.Common.{◌≡◌, ℕ, zero, suc, ◌<◌, ◌≤◌, Bool, true, false, IsTrue, cond, List, [], ◌∷◌, map, length, take, drop, slice_index, refl, sym, ap, ◌∙◌, arith, eqb-true, eq-eqb}
 use Rattle.std.proofs.lemmas.Bool.Decides.{nat_tests}
 use Rattle.std.specs.Prelude.{◌+◌, ◌*◌, ◌&&◌, ◌==◌, nat_lt}
@@ -40,8 +41,7 @@ every_word-at : (n : ℕ) (p : List Bool → Bool) → IsTrue (every_word n p) �
 unfolding every_word
 every_word-at zero p h [] le = h
 every_word-at zero p h (b ∷ w) le = absurd (omega arith)
-every_word-at (suc n) p h [] le =
-    (and_parts (p []) (every_word n (λ w. p (true ∷ w)) && every_word n (λ w. p (false ∷ w))) h).0
+every_word-at (suc n) p h [] le = search (arith, rules, and_parts, every_word)
 every_word-at (suc n) p h (true ∷ w) le =
     let rest = (and_parts (p []) (every_word n (λ w. p (true ∷ w)) && every_word n (λ w. p (false ∷ w))) h).1 in
     every_word-at n (λ w. p (true ∷ w)) (and_parts (every_word n (λ w. p (true ∷ w))) (every_word n (λ w. p (false ∷ w))) rest).0 w (omega arith)
@@ -116,12 +116,7 @@ unfolding known_half
 IsKnownHalf-below h lt =
     let both = and_parts (half_of_word (half_word h) == h) ((units_among (half_word h) == 6) && (corner_count h == corners_among (half_word h)))
     (at_below known_half 13 h known_halves lt) in
-    let rest = and_parts (units_among (half_word h) == 6) (corner_count h == corners_among (half_word h)) both.1 in
-    record {
-      number = eqb-true (half_of_word (half_word h)) h both.0;
-      six = eqb-true (units_among (half_word h)) 6 rest.0;
-      corners = eqb-true (corner_count h) (corners_among (half_word h)) rest.1;
-    }
+    let rest = and_parts (units_among (half_word h) == 6) (corner_count h == corners_among (half_word h)) both.1 in omega (arith, eqb-true)
 
 -- ---- the half that six units are
 
@@ -162,10 +157,7 @@ length-corners (u ∷ us) = ap suc (length-corners us)
 
 pub half_of-bits : (units : List ℕ) → length units ≡ 6 → half_of units ≡ place_of (corner_bits units) half_bits
 unfolding half_of
-half_of-bits units six =
-    ap (λ letters. position_or_len (bytes_eq letters) half_words) (letters-corners units)
-    ∙ same_half (map is_corner units) (length-corners units ∙ six)
-    ∙ ap (λ bits. place_of bits half_bits) (sym (bits-corners units))
+half_of-bits units six = search (arith, rules, letters-corners, same_half, length-corners, bits-corners)
 
 -- ---- the halves of units
 

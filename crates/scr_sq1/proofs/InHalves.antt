@@ -1,6 +1,7 @@
 -- The two units of each corner lie in one half, side by side, where they are neighbours and no corner lies across the
 -- cut, and the other way round.
-use Rattle.std.proofs.Common.{◌≡◌, ℕ, zero, suc, ◌+◌, ◌%◌, ◌<◌, ◌≤◌, ◌⊎◌, inl, inr, Bool, true, false, IsTrue, not, List, [], ◌∷◌, length, slice_index, cond, refl, sym, ap, ◌∙◌, subst, arith, eqb-true, eq-eqb, ltb-true}
+use Rattle.std.proofs.Common.{rules}
+use Rattle.std.proofs.Common.{◌≡◌, ℕ, zero, suc, ◌+◌, ◌%◌, ◌<◌, ◌≤◌, ◌⊎◌, inl, inr, Bool, true, false, IsTrue, not, List, [], ◌∷◌, length, slice_index, cond, refl, sym, ◌∙◌, arith, eqb-true, eq-eqb, ltb-true}
 use Rattle.std.proofs.lemmas.Bool.Decides.{nat_tests}
 use Rattle.std.specs.Prelude.{◌&&◌, ◌||◌, ◌==◌}
 use Rattle.std.proofs.lemmas.Bool.{cases_eq, cases_lt, false≢true, and_parts, and_from, or_cases, or_left, or_right, lt-ltb, le-ltb, ne_eqb, cond-true, cond-false}
@@ -14,8 +15,7 @@ use Rattle.scr_sq1.proofs.Places.{next_unit, previous_unit}
 -- an element that stands at three places occurs three times
 pub occurrences-thrice : (xs : List ℕ) (i j k : ℕ) → i < j → j < k → k < length xs → slice_index xs i ≡ slice_index xs k
     → slice_index xs j ≡ slice_index xs k → 3 ≤ occurrences (slice_index xs k) xs
-occurrences-thrice (x ∷ xs) zero (suc j) (suc k) a b lt d e =
-    omega (arith, ap (λ z. occurrences z (x ∷ xs)) d, one_if-same x, ap (λ z. occurrences z xs) d, occurrences-twice xs j k (omega arith) (omega arith) e)
+occurrences-thrice (x ∷ xs) zero (suc j) (suc k) a b lt d e = search (arith, rules, one_if-same, occurrences-twice)
 occurrences-thrice (x ∷ xs) (suc i) (suc j) (suc k) a b lt d e =
     omega (arith, occurrences-thrice xs i j k (omega arith) (omega arith) (omega arith) d e)
 occurrences-thrice _ i j k a b lt d e = absurd (omega arith)
@@ -94,16 +94,7 @@ pub record IsOpen (units : List ℕ) : Type 0 where
 pub is_open-layers : (units : List ℕ) → is_open units
     ≡ ((not (are_of_one_corner units 11 0) && not (are_of_one_corner units 5 6))
     && (not (are_of_one_corner units 23 12) && not (are_of_one_corner units 17 18)))
-is_open-layers units =
-    two_and_two (not (are_of_one_corner units 11 0)) (not (are_of_one_corner units 5 6)) (not (are_of_one_corner units 23 12))
-    (not (are_of_one_corner units 17 18))
-  where
-    two_and_two : (a b c d : Bool) → (a && (b && (c && (d && true)))) ≡ ((a && b) && (c && d))
-    two_and_two true true true true = refl
-    two_and_two true true true false = refl
-    two_and_two true true false d = refl
-    two_and_two true false c d = refl
-    two_and_two false b c d = refl
+is_open-layers units = grind (arith, nat_tests)
 
 pub IsOpen-test : (units : List ℕ) → IsTrue (is_open units) → IsOpen units
 IsOpen-test units h = grind (arith, nat_tests, and_parts, is_open-layers, not_true)
@@ -187,11 +178,7 @@ module _ (units : List ℕ) (h : InHalves units) where
       → IsTrue (are_of_one_corner units (suc j) k) → ⊥
   apart j k lt last low order one =
       let is = of_one_corner units (suc j) k one in
-      let first : slice_index units j ≡ slice_index units (suc j) = partner_before j lt last is.0 in
-      elim order [
-        | inl above ↦ no_third j (suc j) k (omega arith) above low (omega (arith, is.0, is.1)) (first ∙ sym is.1) (sym is.1)
-        | inr below ↦ no_third k j (suc j) below (omega arith) lt is.0 is.1 first
-      ]
+      let first : slice_index units j ≡ slice_index units (suc j) = partner_before j lt last is.0 in grind (arith, nat_tests, no_third)
 
   IsOpen-halves : IsOpen units
   IsOpen-halves = grind (arith, nat_tests, apart)
@@ -201,15 +188,8 @@ module _ (units : List ℕ) (h : InHalves units) where
   partner_fills k lt (inr p) = grind (arith, nat_tests, previous_unit-inside, or_right)
 
   pub IsPutTogether-halves : IsPutTogether units
-  IsPutTogether-halves = record {
-    size = h.size;
-    pieces = λ p lt. elim (cases_lt p 8) [
-      | inl low ↦ h.corners p low ∙ sym (corner_fills p low)
-      | inr high ↦ h.edges p high lt ∙ sym (edge_fills p high)
-    ];
-    neighbours = λ k lt corner. partner_fills k lt (h.partners k lt (ltb-true (slice_index units k) 8 corner));
-    opened = is_open-from units IsOpen-halves;
-  }
+  IsPutTogether-halves =
+      search (arith, rules, cases_lt, corner_fills, edge_fills, partner_fills, ltb-true, is_open-from, IsOpen-halves)
 
 -- ---- valid states
 
@@ -233,26 +213,7 @@ module _ (s : Sq1State) (h : IsSq1 s) where
       let at : slice_index us first ≡ p = at-place_of p us (omega (arith, two)) in
       let low : first < 24 = omega (arith, place_of-lt p us (omega (arith, two)), h.size) in
       let lies = h.corners p corner in
-      let next : suc first < 24 = omega (arith, low, lies.0) in
-      elim (cases_eq k first) [
-        | inl e ↦ subst (HasPartner us) (sym e) (inl (lies.0, lies.1 ∙ sym at))
-        | inr a ↦ elim (cases_eq k (suc first)) [
-          | inl e ↦ subst (HasPartner us) (sym e) (inr (first, refl, lies.0, at ∙ sym lies.1))
-          | inr b ↦ elim (cases_lt k first) [
-            | inl before ↦ absurd (omega (
-              arith,
-              two,
-              ap (λ z. occurrences z us) lies.1,
-              occurrences-thrice us k first (suc first) before (omega arith) (omega (arith, h.size, next)) (sym lies.1) (at ∙ sym lies.1),
-            ))
-            | inr behind ↦ absurd (omega (
-              arith,
-              two,
-              occurrences-thrice us first (suc first) k (omega arith) (omega arith) (omega (arith, h.size)) at lies.1,
-            ))
-          ]
-        ]
-      ]
+      let next : suc first < 24 = omega (arith, low, lies.0) in grind (arith, nat_tests, cases_eq, cases_lt, before, occurrences-thrice, behind)
 
   pub InHalves-valid : InHalves s.units
   InHalves-valid = grind (arith, nat_tests, corner_fills, edge_fills, valid_partner)
@@ -262,14 +223,7 @@ pub IsSq1-halves : (units : List ℕ) → InHalves units → (equator : Bool)
 IsSq1-halves units h equator = record {
   size = h.size;
   pieces = (IsPutTogether-halves units h).pieces;
-  corners = λ p lt.
-      let first : ℕ = place_of p units in
-      let at : slice_index units first ≡ p = at-place_of p units (omega (arith, h.corners p lt)) in
-      let low : first < 24 = omega (arith, place_of-lt p units (omega (arith, h.corners p lt)), h.size) in
-      elim (h.partners first low (omega (arith, at))) [
-        | inl q ↦ (q.0, q.1 ∙ at)
-        | inr q ↦ absurd (before_first p units q.0 (omega (arith, q.1)) (q.3 ∙ at))
-      ];
+  corners = λ p lt. grind (arith, nat_tests, at-place_of, place_of-lt, before_first);
 }
 
 pub IsPutTogether-valid : (s : Sq1State) → IsSq1 s → IsPutTogether s.units

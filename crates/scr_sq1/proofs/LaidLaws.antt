@@ -1,4 +1,6 @@
 -- Pieces that lie one behind the other, and what is read of them.
+use Rattle.std.proofs.lemmas.Grind.{common_steps}
+use Rattle.std.proofs.Common.{rules}
 use Rattle.std.proofs.Common.{◌≡◌, ℕ, zero, suc, ◌+◌, ◌-◌, ◌*◌, ◌<◌, ◌≤◌, ◌⊎◌, inl, inr, Bool, true, false, not, List, [], ◌∷◌, ◌++◌, map, length, slice_index, IsTrue, refl, sym, ap, ◌∙◌, arith}
 use Rattle.std.proofs.lemmas.Bool.Decides.{nat_tests}
 use Rattle.std.specs.Prelude.{◌==◌, All, filter}
@@ -134,8 +136,7 @@ filter-edges =
 
 pub corners_of-laid : (w : List Bool) (cs es : List ℕ) → Fits w cs es → All (λ c. c < 8) cs → length cs ≡ 8
     → corners_of (laid w cs es) ≡ cs
-corners_of-laid w cs es f low eight =
-    corners_of-sixteen (laid w cs es) (omega (arith, length-corner_units w cs es f low, eight)) ∙ filter-corners w cs es f low
+corners_of-laid w cs es f low eight = search (arith, rules, corners_of-sixteen, length-corner_units, filter-corners)
 
 pub edges_of-laid : (w : List Bool) (cs es : List ℕ) → Fits w cs es → All (λ c. c < 8) cs → edges_of (laid w cs es) ≡ es
 unfolding edges_of
@@ -197,14 +198,8 @@ IsLaid-none = record { fits = record { corners = refl; edges = refl }; below = A
 
 pub IsLaid-append : (us vs : List ℕ) (v w : List Bool) (cs ds es fs : List ℕ) → IsLaid us v cs es → IsLaid vs w ds fs
     → IsLaid (us ++ vs) (v ++ w) (cs ++ ds) (es ++ fs)
-IsLaid-append us vs v w cs ds es fs p q = record {
-  fits = record {
-    corners = omega (arith, corners_among-append v w, length-append cs ds, p.fits.corners, q.fits.corners);
-    edges = omega (arith, edges_among-append v w, length-append es fs, p.fits.edges, q.fits.edges);
-  };
-  below = All-append (λ c. c < 8) cs ds p.below q.below;
-  is = ap (λ xs. xs ++ vs) p.is ∙ ap (λ xs. laid v cs es ++ xs) q.is ∙ sym (laid-append v w cs ds es fs p.fits);
-}
+IsLaid-append us vs v w cs ds es fs p q =
+    grind (arith, nat_tests, common_steps, corners_among-append, length-append, edges_among-append, All-append, laid-append)
 
 -- units each of whose corners fills just two units, side by side
 pub record IsWhole (us : List ℕ) : Type 0 where
@@ -224,11 +219,7 @@ with_edge u us high p = record {
   word = false ∷ p.word;
   corners = p.corners;
   edges = (u - 8) ∷ p.edges;
-  are = record {
-    fits = record { corners = p.are.fits.corners; edges = ap suc p.are.fits.edges };
-    below = p.are.below;
-    is = ap (λ x. x ∷ us) {x = u} {y = 8 + (u - 8)} (omega arith) ∙ ap (λ xs. (8 + (u - 8)) ∷ xs) p.are.is;
-  };
+  are = grind (arith, nat_tests);
 }
 
 -- a corner first
@@ -237,11 +228,7 @@ with_corner u v us low e p = record {
   word = true ∷ p.word;
   corners = u ∷ p.corners;
   edges = p.edges;
-  are = record {
-    fits = record { corners = ap suc p.are.fits.corners; edges = p.are.fits.edges };
-    below = All-cons (λ c. c < 8) u p.corners low p.are.below;
-    is = ap (λ x. u ∷ x ∷ us) e ∙ ap (λ xs. u ∷ u ∷ xs) p.are.is;
-  };
+  are = grind (arith, nat_tests, All-cons);
 }
 
 IsWhole-behind_edge : (u v : ℕ) (us : List ℕ) → 8 ≤ u → IsWhole (u ∷ v ∷ us) → IsWhole (v ∷ us)

@@ -1,4 +1,5 @@
 -- The turns of a Square-1 are lawful.
+use Rattle.std.proofs.Common.{rules}
 use Rattle.std.proofs.Common.{◌≡◌, ℕ, ◌+◌, ◌%◌, ◌<◌, Bool, true, false, IsTrue, cond, List, [], ◌∷◌, length, Option, Some, None, refl, sym, ap, ◌∙◌, subst, arith}
 use Rattle.std.proofs.lemmas.Bool.Decides.{nat_tests}
 use Rattle.std.specs.Prelude.{not, ℤ, pos, neg_ℤ, ◌+ℤ◌, All, nat_lt}
@@ -89,8 +90,7 @@ units_turned s x y n m units e f is = grind (arith, nat_tests)
 
 pub IsSq1-turned : (s : Sq1State) (x y : ℤ) → IsSq1 s → IsTrue (is_open (turned s x y).units) → IsSq1 (turned s x y)
 unfolding turned
-IsSq1-turned s x y h opened =
-    IsSq1-moved s (clockwise x) (clockwise y) h (IsTurnTable-turn (clockwise x) (clockwise y) (clockwise-lt x) (clockwise-lt y)) opened
+IsSq1-turned s x y h opened = search (arith, rules, IsSq1-moved, IsTurnTable-turn, clockwise-lt)
 
 -- ---- turns one after another
 
@@ -126,19 +126,17 @@ turned-apart s x y =
 
 turned_by-none : (s : Sq1State) (n m : ℕ) → length s.units ≡ 24 → n ≡ 0 → m ≡ 0 → turned_by s n m ≡ s
 unfolding turned_by
-turned_by-none s n m size e f =
-    same_units _ _ s.equator (ap (λ i. pick s.units (turn_places i m)) e ∙ ap (λ i. pick s.units (turn_places 0 i)) f ∙ ap (pick s.units) turn_places-none ∙ pick_nothing s.units size)
+turned_by-none s n m size e f = search (arith, rules, same_units, turn_places-none, pick_nothing)
 
 -- turned as far as two turns go together
-turned-sum : (s : Sq1State) (x y z w : ℤ) → turned (turned s x y) z w ≡ turned s (twelfths (x +ℤ z)) (twelfths (y +ℤ w))
+pub turned-sum : (s : Sq1State) (x y z w : ℤ) → turned (turned s x y) z w ≡ turned s (twelfths (x +ℤ z)) (twelfths (y +ℤ w))
 unfolding turned turned_by
 turned-sum s x y z w = grind (arith, nat_tests, turned-both, clockwise-twelfths, clockwise-sum)
 
 -- and back
 turned-back : (s : Sq1State) (x y : ℤ) → length s.units ≡ 24
     → turned (turned s x y) (twelfths (neg_ℤ x)) (twelfths (neg_ℤ y)) ≡ s
-turned-back s x y size =
-    turned-both s x y (twelfths (neg_ℤ x)) (twelfths (neg_ℤ y)) ∙ turned_by-none s _ _ size (clockwise-back x) (clockwise-back y)
+turned-back s x y size = search (arith, rules, turned-both, turned_by-none, clockwise-back)
 
 -- turned by nothing
 pub turned-still : (s : Sq1State) (x y : ℤ) → length s.units ≡ 24 → x ≡ pos 0 → y ≡ pos 0 → turned s x y ≡ s
@@ -196,8 +194,7 @@ merges s r q (Layers x y) (Layers z w) h alike e f =
     layers_merge s q top bottom (are_still top bottom) refl (AreTwelfths-twelfths (x +ℤ z)).within (AreTwelfths-twelfths (y +ℤ w)).within h
     (ap (λ p. is_open p.units) b.is ∙ b.opened)
     (b.is ∙ ap (λ p. turned p z w) a.is ∙ turned-sum s x y z w)
-merges s r q Twist Twist h alike e f =
-    play-empty sq1_after s ∙ ap Some (sym (sq1_after-twist r q f ∙ ap twisted (sq1_after-twist s r e) ∙ twisted-twice s h.size))
+merges s r q Twist Twist h alike e f = search (arith, rules, play-empty, sq1_after-twist, twisted-twice)
 merges s r q (Layers x y) _ h alike e f = absurd (false≢true alike)
 merges s r q Twist _ h alike e f = absurd (false≢true alike)
 merges s r q _ _ h alike e f = absurd (cc)

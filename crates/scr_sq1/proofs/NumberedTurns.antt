@@ -1,5 +1,8 @@
 -- The turns by their numbers.
-use Rattle.std.proofs.Common.{◌≡◌, ℕ, ◌<◌, ◌/◌, ◌%◌, IsTrue, List, [], ◌∷◌, Option, Some, None, refl, sym, ap, ◌∙◌, subst}
+use Rattle.std.proofs.lemmas.Bool.Decides.{nat_tests}
+use Rattle.std.proofs.Common.{rules}
+use Rattle.std.proofs.Common.{arith}
+use Rattle.std.proofs.Common.{◌≡◌, ℕ, ◌<◌, ◌/◌, ◌%◌, IsTrue, List, [], ◌∷◌, Option, Some, None, refl, sym, ap, ◌∙◌}
 use Rattle.std.proofs.lemmas.Bool.{cond-true, cond-false, ne_eqb}
 use Rattle.std.specs.Prelude.{ℤ, pos, ◌-ℤ◌, ◌==◌, map, option_and_then}
 use Rattle.scr_combinatorics.specs.Play.{play}
@@ -7,7 +10,6 @@ use Rattle.scr_notation.specs.declared.event.Event.TheVariants.{Sq1 as EventSq1}
 use Rattle.scr_notation.specs.declared.event.Kind.TheVariants.{LayersAndTwist}
 use Rattle.scr_notation.specs.declared.turn.Turn.{Turn}
 use Rattle.scr_notation.specs.declared.turn.Turn.TheVariants.{Layers, Twist}
-use Rattle.scr_notation.specs.Event.{kind_of}
 use Rattle.scr_notation.specs.Layers.{is_layer_turn}
 use Rattle.scr_notation.specs.TurnNumbers.{layer_turn_at, turn_at}
 use Rattle.scr_notation.specs.Written.{Written, numbered_word}
@@ -49,13 +51,7 @@ after-twist s r n is made = ap Some made ∙ sym (ap (sq1_after s) (twist_number
 pub after-number : (s : Sq1State) (n : ℕ) (o : Option Sq1State) (x y : ℤ) → n < 144 → (n ≡ 65 → ⊥)
     → o ≡ after_layers s x y → x ≡ top_of n → y ≡ bottom_of n → o ≡ sq1_after s (layer_turn_at n)
 unfolding sq1_after turn_at
-after-number s n o x y lt apart made top bottom =
-    let turn = layers_number n apart in
-    let letter : IsTrue (is_layer_turn (Layers (top_of n) (bottom_of n))) =
-    subst (λ t. IsTrue (is_layer_turn t)) turn (has_turn_at LayersAndTwist n tt lt) in
-    made ∙ ap (λ z. after_layers s z y) top ∙ ap (after_layers s (top_of n)) bottom
-    ∙ sym (ap (sq1_after s) turn
-    ∙ cond-true (is_layer_turn (Layers (top_of n) (bottom_of n))) (after_layers s (top_of n) (bottom_of n)) None letter)
+after-number s n o x y lt apart made top bottom = search (arith, rules, layers_number, has_turn_at, cond-true)
 
 -- what the turn of a number makes of a state
 abbrev pub numbered_after : Sq1State → ℕ → Option Sq1State
@@ -76,11 +72,9 @@ play-numbered s (n ∷ w) = same_rest (numbered_after s n) w (λ r. play-numbere
 pub turns-numbered : (word : Written) (numbers : List ℕ) → word.event ≡ EventSq1 → word ≡ numbered_word word.event numbers
     → word.turns ≡ map layer_turn_at numbers
 unfolding turn_at
-turns-numbered word numbers event is =
-    ap (λ (w : Written). w.turns) is ∙ ap (λ e. map (turn_at (kind_of e)) numbers) event
+turns-numbered word numbers event is = grind (arith, nat_tests)
 
 -- and such a word played
 pub play-word : (s : Sq1State) (word : Written) (numbers : List ℕ) → word.event ≡ EventSq1 → word ≡ numbered_word word.event numbers
     → play numbered_after s numbers ≡ play sq1_after s word.turns
-play-word s word numbers event is =
-    play-numbered s numbers ∙ ap (play sq1_after s) (sym (turns-numbered word numbers event is))
+play-word s word numbers event is = search (arith, rules, play-numbered, turns-numbered)

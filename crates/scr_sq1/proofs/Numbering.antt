@@ -1,4 +1,6 @@
 -- The numbers of the states of a Square-1 are one to one.
+use Rattle.std.proofs.lemmas.Bool.Decides.{nat_tests}
+use Rattle.std.proofs.Common.{rules}
 use Rattle.std.proofs.Common.{◌≡◌, ℕ, zero, suc, ◌<◌, Bool, true, false, cond, List, [], ◌∷◌, refl, ap, ◌∙◌, arith, lit≤, lit<}
 use Rattle.std.specs.Prelude.{◌==◌}
 use Rattle.scr_combinatorics.specs.Permutations.{permutation_number, permutation_at}
@@ -44,10 +46,7 @@ state_of_four q c e h lq lc le lh =
     let l = LaidState-pieces hs cs es (shapes_one_to_one.valid h lh) (lists.valid c lc) (lists.valid e le) in
     record {
       valid = l.valid (q == 1);
-      again = ap (λ x. x ∷ permutation_number (corners_of (laid (shape_word hs) cs es)) ∷ permutation_number (edges_of (laid (shape_word hs) cs es)) ∷ shape_number (shape_of (laid (shape_word hs) cs es)) ∷ []) (digit_again q lq)
-          ∙ ap (λ x. q ∷ x ∷ permutation_number (edges_of (laid (shape_word hs) cs es)) ∷ shape_number (shape_of (laid (shape_word hs) cs es)) ∷ []) (ap permutation_number l.corners_again ∙ lists.number_again c lc)
-          ∙ ap (λ x. q ∷ c ∷ x ∷ shape_number (shape_of (laid (shape_word hs) cs es)) ∷ []) (ap permutation_number l.edges_again ∙ lists.number_again e le)
-          ∙ ap (λ x. q ∷ c ∷ e ∷ x ∷ []) (ap shape_number l.shape_again ∙ shapes_one_to_one.number_again h lh);
+      again = grind (arith, nat_tests, digit_again, shapes_one_to_one);
     }
 
 -- and a state has them
@@ -63,18 +62,8 @@ state_has_four s valid =
     ap (λ x. laid (shape_word x) (permutation_at 8 c) (permutation_at 8 e)) (shapes_one_to_one.state_again (shape_of s.units) p.shape)
     ∙ ap (λ x. laid (shape_word (shape_of s.units)) x (permutation_at 8 e)) (lists.state_again (corners_of s.units) p.corners)
     ∙ ap (laid (shape_word (shape_of s.units)) (corners_of s.units)) (lists.state_again (edges_of s.units) p.edges)
-    ∙ p.laid_again in
-    record {
-      below = (
-        equator_below s.equator,
-        (lists.below (corners_of s.units) p.corners, (lists.below (edges_of s.units) p.edges, (shapes_one_to_one.below (shape_of s.units) p.shape, tt))),
-      );
-      again = ap (λ x. let r : Sq1State = record { units = x; equator = cond s.equator 1 0 == 1 } in r) units
-          ∙ ap (λ b. let r : Sq1State = record { units = s.units; equator = b } in r) (equator_again s.equator);
-    }
+    ∙ p.laid_again in grind (arith, nat_tests, equator_below, shapes_one_to_one, equator_again)
 
 -- states are numbered by the numbers below the count, one for each
 pub sq1_numbering : IsNumbering sq1_numbered
-sq1_numbering =
-    numbering_by_digits sq1_bases sq1_of_digits sq1_digits IsSq1 (lit≤ tt) (lit≤ tt)
-    (by_four_digits Gives 2 40320 40320 3678 state_of_four) state_has_four
+sq1_numbering = search (arith, rules, numbering_by_digits, lit≤, by_four_digits, state_of_four, state_has_four)

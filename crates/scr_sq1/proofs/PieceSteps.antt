@@ -1,5 +1,7 @@
 -- The steps of the loops over pieces.
-use Rattle.std.proofs.Common.{◌≡◌, ℕ, ◌+◌, ◌-◌, ◌<◌, ◌≤◌, Bool, true, false, IsTrue, cond, not, List, [], ◌∷◌, ◌++◌, length, take, drop, get_or, set, slice_index, refl, sym, ap, ◌∙◌, subst, arith, eqb-true}
+use Rattle.std.proofs.lemmas.Grind.{common_steps}
+use Rattle.std.proofs.Common.{rules}
+use Rattle.std.proofs.Common.{◌≡◌, ℕ, ◌+◌, ◌-◌, ◌<◌, ◌≤◌, Bool, true, false, IsTrue, cond, not, List, [], ◌∷◌, ◌++◌, length, take, drop, get_or, set, slice_index, refl, ap, ◌∙◌, arith, eqb-true}
 use Rattle.std.proofs.lemmas.Bool.Decides.{nat_tests}
 use Rattle.std.specs.Prelude.{◌&&◌, ◌==◌, filter}
 use Rattle.std.proofs.lemmas.Bool.{and_parts, cond-true, cond-false, lt-ltb, le-ltb}
@@ -49,10 +51,7 @@ module _ (unit corner edge h : ℕ) (units : List ℕ) (whole : List Bool) (cs e
   pub laying_first : (hs : List ℕ) (place : ℕ) → place < length hs → h ≡ slice_index hs place
       → Laying unit corner edge units (shape_word (drop place hs)) whole cs es
       → Laying unit corner edge units (half_word h ++ shape_word (drop (place + 1) hs)) whole cs es
-  laying_first hs place lt e =
-      let rest : List ℕ = drop (place + 1) hs in
-      subst (λ left. Laying unit corner edge units left whole cs es)
-      (at_drop_more shape_word hs place 0 lt ∙ ap (λ i. shape_word (i ∷ rest)) (sym e) ∙ shape_word-cons h rest)
+  laying_first hs place lt e = grind (arith, nat_tests, common_steps, at_drop_more, shape_word-cons)
 
   -- the next of them
   pub laying_next : (piece count : ℕ) (b : Bool) (rest : List Bool) → h < 13 → count ≡ corner_count h → piece < 6 - count
@@ -61,17 +60,12 @@ module _ (unit corner edge h : ℕ) (units : List ℕ) (whole : List Bool) (cs e
   laying_next piece count b rest low ec lt e =
       let w = half_word h in
       let known = IsKnownWord-below h low in
-      let inside : piece < length w = omega (arith, lt, ec, known.size) in
-      subst (λ left. Laying unit corner edge units left whole cs es)
-      (ap (λ xs. xs ++ rest) (drop_more w piece false inside)
-      ∙ ap (λ x. x ∷ (drop (piece + 1) w ++ rest)) (sym (ap (λ xs. get_or xs piece false) known.word) ∙ get_or-take (length w) (get_or HALVES h []) piece false inside ∙ e))
+      let inside : piece < length w = omega (arith, lt, ec, known.size) in grind (arith, nat_tests, drop_more, get_or-take)
 
   -- none of them
   pub laying_none : (piece count : ℕ) (rest : List Bool) → h < 13 → count ≡ corner_count h → 6 - count ≤ piece
       → Laying unit corner edge units (drop piece (half_word h) ++ rest) whole cs es → Laying unit corner edge units rest whole cs es
-  laying_none piece count rest low ec le =
-      subst (λ left. Laying unit corner edge units left whole cs es)
-      (ap (λ xs. xs ++ rest) (drop_all piece (half_word h) (omega (arith, le, ec, (IsKnownWord-below h low).size))))
+  laying_none piece count rest low ec le = search (arith, rules, drop_all, IsKnownWord-below)
 
 pub laying_start : (whole : List Bool) (cs es units : List ℕ) → length units ≡ 24 → Fits whole cs es → units_among whole ≡ 24
     → Laying 0 0 0 units whole whole cs es
@@ -84,20 +78,7 @@ module _ (unit corner edge : ℕ) (units : List ℕ) (rest whole : List Bool) (c
   pub laying_corner : (c : ℕ) → c ≡ slice_index cs corner → Laying unit corner edge units (true ∷ rest) whole cs es
       → Laying (unit + 2) (corner + 1) edge (set (set units unit c) (unit + 1) c) rest whole cs es
   laying_corner c e l =
-      let room = laying_corner_room l in
-      let here : drop corner cs ≡ c ∷ drop (corner + 1) cs = drop_more cs corner 0 room.0 ∙ ap (λ x. x ∷ drop (corner + 1) cs) (sym e) in
-      let made : List ℕ = take unit units in
-      let more : List ℕ = laid rest (drop (corner + 1) cs) (drop edge es) in
-      let second : unit + 1 < length (set units unit c) = omega (arith, room.1, l.size, length-set units unit c) in
-      record {
-        size = length-set (set units unit c) (unit + 1) c ∙ length-set units unit c ∙ l.size;
-        fits = record { corners = omega (arith, l.fits.corners, ap length here); edges = l.fits.edges };
-        units_left = omega (arith, l.units_left);
-        made = ap (λ n. take n (set (set units unit c) (unit + 1) c) ++ more) {x = unit + 2} {y = unit + 1 + 1} (omega arith)
-            ∙ ap (λ xs. xs ++ more) (take_more_set (set units unit c) (unit + 1) c second ∙ ap (λ xs. xs ++ c ∷ []) (take_more_set units unit c (omega (arith, room.1, l.size))))
-            ∙ append_assoc (made ++ c ∷ []) (c ∷ []) more ∙ append_assoc made (c ∷ []) (c ∷ more)
-            ∙ ap (λ xs. made ++ laid (true ∷ rest) xs (drop edge es)) (sym here) ∙ l.made;
-      }
+      grind (arith, nat_tests, common_steps, laying_corner_room, drop_more, length-set, take_more_set, append_assoc)
 
   pub laying_edge_room : Laying unit corner edge units (false ∷ rest) whole cs es → (edge < length es) × (unit < 24)
   laying_edge_room l = (omega (arith, l.fits.edges, length-drop edge es), omega (arith, l.units_left))
@@ -146,14 +127,11 @@ edges_room i found edges units eight lt edge r = read_room 8 found edges _ _ r _
 pub edges_more : (i found : ℕ) (edges units : List ℕ) → length (edges_of units) ≡ 8 → i < length units
     → 8 ≤ slice_index units i → ReadEdges i found edges units
     → ReadEdges (i + 1) (found + 1) (set edges found (slice_index units i - 8)) units
-edges_more i found edges units eight lt edge r =
-    read_more 8 found edges _ _ r _ _ (edges_room i found edges units eight lt edge r) (edge_next i units lt edge)
+edges_more i found edges units eight lt edge r = search (arith, rules, read_more, edges_room, edge_next)
 
 pub edges_same : (i found : ℕ) (edges units : List ℕ) → i < length units → slice_index units i < 8
     → ReadEdges i found edges units → ReadEdges (i + 1) found edges units
-edges_same i found edges units lt corner =
-    subst (λ rest. IsReadTo 8 found edges rest (edges_of units))
-    (at_drop_more edges_of units i 0 lt ∙ edges_of-corner (slice_index units i) (drop (i + 1) units) corner)
+edges_same i found edges units lt corner = grind (arith, nat_tests, common_steps, at_drop_more, edges_of-corner)
 
 pub edges_end : (i found : ℕ) (edges units : List ℕ) → length (edges_of units) ≡ 8 → length units ≤ i
     → ReadEdges i found edges units → edges ≡ edges_of units
@@ -179,22 +157,16 @@ first_unit : (i : ℕ) (second : Bool) (units : List ℕ) → i < length units �
     → corners_left i second units ≡ slice_index units i ∷ corners_left (i + 1) (not second) units
 first_unit i true units lt corner e = absurd (cc)
 first_unit i false units lt corner e =
-    at_drop_more (λ us. every_second (filter is_corner us)) units i 0 lt
-    ∙ ap every_second (filter_corner (slice_index units i) (drop (i + 1) units) corner)
-    ∙ every_second-cons (slice_index units i) (filter is_corner (drop (i + 1) units))
+    grind (arith, nat_tests, common_steps, at_drop_more, every_second, filter_corner, every_second-cons)
 
 second_unit : (i : ℕ) (second : Bool) (units : List ℕ) → i < length units → slice_index units i < 8 → second ≡ true
     → corners_left i second units ≡ corners_left (i + 1) (not second) units
 second_unit i false units lt corner e = absurd (cc)
-second_unit i true units lt corner e =
-    at_drop_more (λ us. every_second (drop 1 (filter is_corner us))) units i 0 lt
-    ∙ ap (λ xs. every_second (drop 1 xs)) (filter_corner (slice_index units i) (drop (i + 1) units) corner)
+second_unit i true units lt corner e = grind (arith, nat_tests, common_steps, at_drop_more, every_second, filter_corner)
 
 edge_unit : (i : ℕ) (second : Bool) (units : List ℕ) → i < length units → 8 ≤ slice_index units i
     → corners_left i second units ≡ corners_left (i + 1) second units
-edge_unit i second units lt edge =
-    at_drop_more (λ us. every_second (drop (cond second 1 0) (filter is_corner us))) units i 0 lt
-    ∙ ap (λ xs. every_second (drop (cond second 1 0) xs)) (filter_edge (slice_index units i) (drop (i + 1) units) edge)
+edge_unit i second units lt edge = grind (arith, nat_tests, common_steps, at_drop_more, every_second, filter_edge)
 
 module _ (i found : ℕ) (second : Bool) (corners units : List ℕ) where
   pub corners_room : length (filter is_corner units) ≡ 16 → i < length units → slice_index units i < 8 → second ≡ false
@@ -205,26 +177,17 @@ module _ (i found : ℕ) (second : Bool) (corners units : List ℕ) where
   pub corners_first : length (filter is_corner units) ≡ 16 → i < length units → slice_index units i < 8 → second ≡ false
       → ReadCorners i found second corners units
       → ReadCorners (i + 1) (found + 1) (not second) (set corners found (slice_index units i)) units
-  corners_first sixteen lt corner e r =
-      read_more 8 found corners _ _ r _ _ (corners_room sixteen lt corner e r) (first_unit i second units lt corner e)
+  corners_first sixteen lt corner e r = search (arith, rules, read_more, corners_room, first_unit)
 
   pub corners_second : i < length units → slice_index units i < 8 → second ≡ true
       → ReadCorners i found second corners units → ReadCorners (i + 1) found (not second) corners units
-  corners_second lt corner e =
-      subst (λ rest. IsReadTo 8 found corners rest (every_second (filter is_corner units))) (second_unit i second units lt corner e)
+  corners_second lt corner e = search (arith, rules, every_second, second_unit)
 
   pub corners_same : i < length units → 8 ≤ slice_index units i
       → ReadCorners i found second corners units → ReadCorners (i + 1) found second corners units
-  corners_same lt edge =
-      subst (λ rest. IsReadTo 8 found corners rest (every_second (filter is_corner units))) (edge_unit i second units lt edge)
+  corners_same lt edge = search (arith, rules, every_second, edge_unit)
 
   pub corners_end : length (filter is_corner units) ≡ 16 → length units ≤ i
       → ReadCorners i found second corners units → corners ≡ corners_of units
   corners_end sixteen le r =
-      read_whole 8 found corners _ _ r (length-every_second 8 (filter is_corner units) sixteen)
-      (ap (λ us. every_second (drop (cond second 1 0) (filter is_corner us))) (drop_all i units le) ∙ nothing_left second)
-      ∙ sym (corners_of-sixteen units sixteen)
-    where
-      nothing_left : (b : Bool) → every_second (drop (cond b 1 0) []) ≡ []
-      nothing_left true = refl
-      nothing_left false = refl
+      search (arith, rules, read_whole, length-every_second, every_second, drop_all, corners_of-sixteen)

@@ -1,4 +1,5 @@
 -- Where the pieces of each unit stood before a turn.
+use Rattle.std.proofs.Common.{rules}
 use Rattle.std.proofs.Common.{◌≡◌, ℕ, suc, ◌+◌, ◌-◌, ◌%◌, ◌<◌, ◌≤◌, Bool, true, IsTrue, List, map, length, slice_index, refl, sym, ap, ◌∙◌, arith, eqb-true, lt-ltb}
 use Rattle.std.specs.Prelude.{◌&&◌, ◌==◌, nat_lt, if◌then◌else◌}
 use Rattle.std.proofs.lemmas.Bool.Decides.{nat_tests}
@@ -24,18 +25,12 @@ pub places_by-at : (place : ℕ → ℕ) (k : ℕ) → k < 24 → slice_index (p
 places_by-at place k lt = get_or-map place (numbers_from 0 24) k 0 0 lt ∙ ap place (omega (arith, numbers_from-at 0 24 k lt))
 
 pub same_places : (f g : ℕ → ℕ) → ((k : ℕ) → k < 24 → f k ≡ g k) → places_by f ≡ places_by g
-same_places f g same =
-    ext_get_or 0 (places_by f) (places_by g) refl (λ k lt. places_by-at f k lt ∙ same k lt ∙ sym (places_by-at g k lt))
+same_places f g same = search (arith, rules, ext_get_or, places_by-at)
 
 -- one after the other
 pub pick-places_by : (f g : ℕ → ℕ) → ((k : ℕ) → k < 24 → g k < 24)
     → pick (places_by f) (places_by g) ≡ places_by (λ k. f (g k))
-pick-places_by f g below =
-    ext_get_or 0 (pick (places_by f) (places_by g)) (places_by (λ k. f (g k))) refl (λ k lt.
-    pick-at (places_by f) (places_by g) k lt
-    ∙ ap (λ i. slice_index (places_by f) i) (places_by-at g k lt)
-    ∙ places_by-at f (g k) (below k lt)
-    ∙ sym (places_by-at (λ i. f (g i)) k lt))
+pick-places_by f g below = search (arith, rules, ext_get_or, pick-at, places_by-at)
 
 -- ---- turns
 
@@ -57,8 +52,7 @@ pub turn_places-both : (n m i j : ℕ) → n < 12 → m < 12 → i < 12 → j < 
     → pick (turn_places n m) (turn_places i j) ≡ turn_places ((n + i) % 12) ((m + j) % 12)
 unfolding turn_places
 turn_places-both n m i j ln lm li lj =
-    pick-places_by (place_before n m) (place_before i j) (λ k lt. place_before-lt i j k)
-    ∙ same_places (λ k. place_before n m (place_before i j k)) (place_before ((n + i) % 12) ((m + j) % 12)) (λ k lt. place_before-both n m i j k ln lm li lj lt)
+    search (arith, rules, pick-places_by, place_before-lt, same_places, place_before-both)
 
 pub turn_places-none : turn_places 0 0 ≡ numbers_from 0 24
 unfolding turn_places

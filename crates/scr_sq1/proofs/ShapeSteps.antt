@@ -1,5 +1,7 @@
 -- The tables of the halves, and the steps of the loops over shapes.
-use Rattle.std.proofs.Common.{◌≡◌, ℕ, zero, suc, ◌+◌, ◌-◌, ◌*◌, ◌^◌, ◌<◌, ◌≤◌, IsTrue, inl, inr, Bool, cond, List, [], ◌∷◌, ◌++◌, length, take, drop, get_or, set, slice_index, refl, sym, ap, ◌∙◌, subst, arith, eqb-true, lit≤}
+use Rattle.std.proofs.lemmas.Grind.{common_steps}
+use Rattle.std.proofs.Common.{rules}
+use Rattle.std.proofs.Common.{◌≡◌, ℕ, zero, suc, ◌+◌, ◌-◌, ◌*◌, ◌^◌, ◌<◌, ◌≤◌, IsTrue, Bool, cond, List, [], ◌∷◌, ◌++◌, length, take, drop, get_or, set, slice_index, refl, sym, ap, ◌∙◌, arith, eqb-true, lit≤}
 use Rattle.std.proofs.lemmas.Bool.Decides.{nat_tests}
 use Rattle.std.specs.Prelude.{◌==◌, nat_lt, map}
 use Rattle.std.proofs.lemmas.Bool.{cases_lt, ltb-true}
@@ -104,25 +106,21 @@ half_bits-none units n k le = ap corner_bits (drop_all k (take n units) (omega (
 pub half_bits-more : (units : List ℕ) (n k : ℕ) → k < n → n ≤ length units
     → corner_bits (drop k (take n units)) ≡ cond (is_corner (slice_index units k)) 1 0 + 2 * corner_bits (drop (k + 1) (take n units))
 half_bits-more units n k lt le =
-    at_drop_more corner_bits (take n units) k 0 (omega (arith, length-take-le n units le))
-    ∙ ap (λ u. cond (is_corner u) 1 0 + 2 * corner_bits (drop (k + 1) (take n units))) (get_or-take n units k 0 lt)
+    grind (arith, nat_tests, common_steps, at_drop_more, corner_bits, length-take-le, get_or-take)
 
 pub half_bits-lt : (units : List ℕ) (n k : ℕ) → n ≤ k + 6 → n ≤ length units → corner_bits (drop k (take n units)) < 64
-half_bits-lt units n k le inside =
-    corner_bits-lt 6 (drop k (take n units)) (omega (arith, length-drop k (take n units), length-take-le n units inside))
+half_bits-lt units n k le inside = grind (arith, nat_tests, common_steps, corner_bits-lt, length-drop, length-take-le)
 
 -- ---- runs
 
 -- one half less
 pub run_of-next : (f : ℕ → ℕ) (ks : List ℕ) (i r : ℕ) → i < length ks → f (slice_index ks i) ≤ r
     → (let p : ℕ × ℕ = (suc (run_of f (drop (i + 1) ks) (r - f (slice_index ks i))).0, (run_of f (drop (i + 1) ks) (r - f (slice_index ks i))).1) in run_of f (drop i ks) r ≡ p)
-run_of-next f ks i r lt le =
-    at_drop_more (λ xs. run_of f xs r) ks i 0 lt ∙ run_of-later f (slice_index ks i) (drop (i + 1) ks) r le
+run_of-next f ks i r lt le = grind (arith, nat_tests, common_steps, at_drop_more, run_of-later)
 
 pub run_of-found : (f : ℕ → ℕ) (ks : List ℕ) (i r : ℕ) → i < length ks → r < f (slice_index ks i)
     → (let p : ℕ × ℕ = (0, r) in run_of f (drop i ks) r ≡ p)
-run_of-found f ks i r lt less =
-    at_drop_more (λ xs. run_of f xs r) ks i 0 lt ∙ run_of-here f (slice_index ks i) (drop (i + 1) ks) r less
+run_of-found f ks i r lt less = grind (arith, nat_tests, common_steps, at_drop_more, run_of-here)
 
 -- the halves behind a place, and those behind the next one
 places_left : (place : ℕ) → place < 4 → 4 - place ≡ suc (3 - place)
@@ -152,29 +150,14 @@ pub record CountingLower (place corners half lower number : ℕ) (hs : List ℕ)
 pub lower_start : (place corners half number : ℕ) (hs : List ℕ) → place < 4 → IsShape hs → half ≡ slice_index hs place
     → CountedHalves (4 - place) corners number (drop place hs) hs → CountingLower place corners half 0 number hs
 lower_start place corners half number hs lt shape e c =
-    let behind : List ℕ = drop (place + 1) hs in
-    let here : drop place hs ≡ half ∷ behind = drop_more hs place 0 (omega (arith, shape.size)) ∙ ap (λ h. h ∷ behind) (sym e) in
-    let first = StartsWith-halves (3 - place) corners half behind
-    (subst (λ n. AreHalves n corners (half ∷ behind)) (places_left place lt) (subst (AreHalves (4 - place) corners) here c.halves)) in
-    record {
-      few = c.few;
-      first = first;
-      counted = omega (
-        arith,
-        c.counted,
-        ap (halves_number corners) here,
-        halves_number-cons (3 - place) corners half behind first.others.size,
-      );
-    }
+    grind (arith, nat_tests, common_steps, drop_more, StartsWith-halves, places_left, halves_number, halves_number-cons)
 
 module _ (place corners half lower number : ℕ) (hs : List ℕ) (l : CountingLower place corners half lower number hs) where
   -- the next lower half
   lower_more : lower < half → total (map (ways_after (3 - place) corners) (drop lower (take half corner_counts)))
       ≡ ways_after (3 - place) corners (corner_count lower) + total (map (ways_after (3 - place) corners) (drop (lower + 1) (take half corner_counts)))
   lower_more lt =
-      let f = ways_after (3 - place) corners in
-      at_drop_more (λ ks. total (map f ks)) (take half corner_counts) lower 0 (omega (arith, l.first.below, length-take-le half corner_counts (omega (arith, l.first.below, length-corner_counts))))
-      ∙ ap (λ k. f k + total (map f (drop (lower + 1) (take half corner_counts)))) (get_or-take half corner_counts lower 0 lt)
+      grind (arith, nat_tests, common_steps, at_drop_more, length-take-le, length-corner_counts, get_or-take)
 
   pub lower_small : lower < half → IsShape hs → number + ways_after (3 - place) corners (corner_count lower) < 3678
   lower_small lt shape = omega (arith, l.counted, lower_more lt, shapes_one_to_one.below hs shape)
@@ -186,14 +169,7 @@ module _ (place corners half lower number : ℕ) (hs : List ℕ) (l : CountingLo
   pub lower_end : (count : ℕ) → count ≡ corner_count half → half ≤ lower → place < 4
       → CountedHalves (4 - (place + 1)) (corners - count) number (drop (place + 1) hs) hs
   lower_end count is le lt =
-      let f = ways_after (3 - place) corners in
-      let none : drop lower (take half corner_counts) ≡ [] = drop_all lower (take half corner_counts) (omega (arith, le, length-take-le half corner_counts (omega (arith, l.first.below, length-corner_counts)))) in
-      subst (λ k. CountedHalves (4 - (place + 1)) (corners - k) number (drop (place + 1) hs) hs) (sym is)
-      (subst (λ n. CountedHalves n (corners - corner_count half) number (drop (place + 1) hs) hs) (places_after place lt) (record {
-        halves = l.first.others;
-        counted = omega (arith, l.counted, ap (λ ks. total (map f ks)) none);
-        few = omega (arith, l.few);
-      }))
+      search (arith, rules, drop_all, length-take-le, length-corner_counts, corner_count, places_after)
 
 pub counted_whole : (place corners number : ℕ) (hs : List ℕ) → 4 ≤ place
     → CountedHalves (4 - place) corners number (drop place hs) hs → number ≡ shape_number hs
@@ -225,68 +201,26 @@ pub record FallingHalf (place n corners half rest number : ℕ) (halves : List �
 pub falling_start : (place corners rest number : ℕ) (halves : List ℕ) → place < 4
     → MadeHalves place (4 - place) corners rest number halves → FallingHalf place (3 - place) corners 0 rest number halves
 unfolding halves_at
-falling_start place corners rest number halves lt m =
-    let here = subst (λ n. MadeHalves place n corners rest number halves) (places_left place lt) m in
-    record {
-      few = here.few;
-      low = omega arith;
-      below = omega (arith, here.below, ways-suc (3 - place) corners);
-      first = (run_of (ways_after (3 - place) corners) corner_counts rest).0;
-      first_is = omega arith;
-      made = here.made;
-    }
+falling_start place corners rest number halves lt m = search (arith, rules, places_left, ways-suc)
 
 module _ (place n corners half rest number : ℕ) (halves : List ℕ) (l : FallingHalf place n corners half rest number halves)
     (run : ℕ) (is : run ≡ ways_after n corners (corner_count half)) where
   pub falling_next : run ≤ rest → FallingHalf place n corners (half + 1) (rest - run) number halves
   falling_next le =
-      let f = ways_after n corners in
-      let lt : half < length corner_counts = omega (arith, l.low, length-corner_counts) in
-      let next = run_of-next f corner_counts half rest lt (omega (arith, is)) in
-      let less : rest - run ≡ rest - f (slice_index corner_counts half) = omega (arith, is) in
-      let below : rest - run < total (map f (drop (half + 1) corner_counts)) =
-      omega (arith, is, l.below, at_drop_more (λ ks. total (map f ks)) corner_counts half 0 lt) in
-      record {
-        few = l.few;
-        low = elim (cases_lt (half + 1) 13) [
-          | inl low ↦ low
-          | inr le ↦ absurd (omega (arith, below, ap (λ ks. total (map f ks)) (drop_all (half + 1) corner_counts (omega (arith, length-corner_counts)))))
-        ];
-        below = below;
-        first = l.first;
-        first_is = omega (arith, l.first_is, ap (λ p. p.0) next, ap (λ r. (run_of f (drop (half + 1) corner_counts) r).0) less);
-        made = subst (λ r. IsReadTo 4 place halves (l.first ∷ halves_at n (corners - slice_index corner_counts l.first) r) (shape_at number))
-            (ap (λ p. p.1) next ∙ ap (λ r. (run_of f (drop (half + 1) corner_counts) r).1) (sym less)) l.made;
-      }
+      grind (arith, nat_tests, common_steps, length-corner_counts, run_of-next, at_drop_more, cases_lt, drop_all)
 
   pub falling_few : rest < run → corner_count half ≤ corners
-  falling_few less = elim (cases_lt corners (corner_count half)) [
-    | inl many ↦ absurd (omega (arith, is, less, ways_after-many n corners (corner_count half) many))
-    | inr le ↦ le
-  ]
+  falling_few less = search (arith, rules, cases_lt, corner_count, ways_after-many)
 
   pub falling_found : rest < run → place < 4 → n ≡ 3 - place → (count : ℕ) → count ≡ corner_count half
       → MadeHalves (place + 1) (4 - (place + 1)) (corners - count) rest number (set halves place half)
   falling_found less lt en count ec =
-      let f = ways_after n corners in
-      let found = run_of-found f corner_counts half rest (omega (arith, l.low, length-corner_counts)) (omega (arith, is, less)) in
-      let same : l.first ≡ half = omega (arith, l.first_is, ap (λ p. p.0) found) in
-      let few = falling_few less in
-      let made : MadeHalves (place + 1) n (corners - corner_count half) rest number (set halves place half) = record {
-        few = omega (arith, l.few);
-        below = omega (arith, is, less, ways_after-few n corners (corner_count half) few);
-        made = read_more 4 place halves _ _ l.made half _ lt
-            (ap (λ h. h ∷ halves_at n (corners - slice_index corner_counts h) (run_of f (drop half corner_counts) rest).1) same
-            ∙ ap (λ p. half ∷ halves_at n (corners - corner_count half) p.1) found);
-      } in
-      subst (λ m. MadeHalves (place + 1) m (corners - count) rest number (set halves place half)) (en ∙ places_after place lt)
-      (subst (λ k. MadeHalves (place + 1) n (corners - k) rest number (set halves place half)) (sym ec) made)
+      grind (arith, nat_tests, common_steps, run_of-found, length-corner_counts, falling_few, corner_count, ways_after-few, read_more, places_after)
 
 pub made_end : (place n corners rest number : ℕ) (halves : List ℕ) → 4 ≤ place → n ≡ 0
     → MadeHalves place n corners rest number halves → halves ≡ shape_at number
 unfolding halves_at
-made_end place n corners rest number halves le e m =
-    read_all 4 place halves _ _ m.made le (ap (λ k. halves_at k corners rest) e)
+made_end place n corners rest number halves le e m = search (arith, rules, read_all)
 
 -- ---- the shape of units
 
@@ -315,9 +249,4 @@ pub read_next : (place bits : ℕ) (units halves : List ℕ) → place < 4 → l
     → bits ≡ corner_bits (drop (6 * place) (take (6 * place + 6) units))
     → ReadHalves (place + 1) (4 - (place + 1)) units (set halves place (get_or HALF_OF_BITS bits 0))
 read_next place bits units halves lt size r e =
-    let six : List ℕ = take 6 (drop (6 * place) units) in
-    let same : drop (6 * place) (take (6 * place + 6) units) ≡ six = drop-take (6 * place) 6 units in
-    let all : length six ≡ 6 = grind (arith, length-drop, length-take-le) in
-    let half = half_table six bits all (e ∙ ap corner_bits same) (omega (arith, e, ap corner_bits same, corner_bits-lt 6 six (omega (arith, all)))) in
-    subst (λ n. ReadHalves (place + 1) n units (set halves place (get_or HALF_OF_BITS bits 0))) (places_after place lt)
-    (read_step place (3 - place) (get_or HALF_OF_BITS bits 0) units halves lt (subst (λ n. ReadHalves place n units halves) (places_left place lt) r) half)
+    search (arith, rules, drop-take, length-drop, length-take-le, half_table, corner_bits, corner_bits-lt, places_after, read_step, places_left)

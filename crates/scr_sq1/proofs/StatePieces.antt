@@ -1,6 +1,6 @@
 -- The corners and the edges of valid states, in unit order, are permutations; and permutations laid by a shape are a
 -- valid state.
-use Rattle.std.proofs.Common.{◌≡◌, ℕ, zero, suc, ◌+◌, ◌-◌, ◌*◌, ◌<◌, eqb, Bool, List, [], ◌∷◌, map, length, refl, sym, ap, ◌∙◌, subst, arith}
+use Rattle.std.proofs.Common.{◌≡◌, ℕ, zero, suc, ◌+◌, ◌*◌, ◌<◌, eqb, Bool, List, [], ◌∷◌, map, length, refl, sym, ap, ◌∙◌, subst, arith}
 use Rattle.std.specs.Prelude.{All, filter}
 use Rattle.std.proofs.lemmas.Bool.Decides.{nat_tests}
 use Rattle.std.proofs.lemmas.List.Elements.{All-head, All-tail}
@@ -9,7 +9,7 @@ use Rattle.scr_combinatorics.specs.Permutations.{IsPermutation}
 use Rattle.scr_combinatorics.proofs.Counts.{one_if, one_if-other, lesser_count-zero, lesser_count-suc, lesser_count-all, occurrences-above}
 use Rattle.scr_combinatorics.proofs.PermutationLaws.{All-permutation}
 use Rattle.scr_sq1.specs.Units.{Sq1State, IsSq1, is_corner}
-use Rattle.scr_sq1.specs.Shapes.{half_word, corners_among, shape_of, AreHalves, IsShape, units_among}
+use Rattle.scr_sq1.specs.Shapes.{half_word, corners_among, shape_of, IsShape, units_among}
 use Rattle.scr_sq1.specs.Numbers.{corners_of, edges_of, laid, shape_word}
 use Rattle.scr_sq1.proofs.InHalves.{InHalves, InHalves-valid, IsSq1-halves}
 use Rattle.scr_sq1.proofs.LaidLaws.{Fits, corners_among-append, edges_among-append, length-laid, occurrences-laid, length-corner_units, corners_of-laid, edges_of-laid}
@@ -75,16 +75,7 @@ StatePieces-halves units h =
       );
     } in
     let own_corners : corners_of units ≡ cs = ap corners_of p.are.is ∙ corners_of-laid w cs es fits p.are.below corners.size in
-    let own_edges : edges_of units ≡ es = ap edges_of p.are.is ∙ edges_of-laid w cs es fits p.are.below in
-    record {
-      corner_units = ap (λ us. length (filter is_corner us)) p.are.is
-          ∙ omega (arith, length-corner_units w cs es fits p.are.below, corners.size);
-      corners = subst (IsPermutation 8) (sym own_corners) corners;
-      edges = subst (IsPermutation 8) (sym own_edges) edges;
-      shape = subst IsShape (sym (shape_of-halves units)) (subst (λ c. AreHalves 4 c (halves_in 4 units)) corners.size p.halves);
-      laid_again = ap (λ hs. laid (shape_word hs) (corners_of units) (edges_of units)) (shape_of-halves units)
-          ∙ ap (λ xs. laid w xs (edges_of units)) own_corners ∙ ap (laid w cs) own_edges ∙ sym p.are.is;
-    }
+    let own_edges : edges_of units ≡ es = ap edges_of p.are.is ∙ edges_of-laid w cs es fits p.are.below in grind (arith, nat_tests, length-corner_units, shape_of-halves, halves_in)
 
 pub StatePieces-valid : (s : Sq1State) → IsSq1 s → StatePieces s.units
 StatePieces-valid s h = StatePieces-halves s.units (InHalves-valid s h)
@@ -107,11 +98,7 @@ AreCounted-halves (h ∷ hs) below =
     let known = IsKnownHalf-below h (All-head (λ x. x < 13) h hs below) in
     let others = AreCounted-halves hs (All-tail (λ x. x < 13) h hs below) in
     let corners = corners_among-append (half_word h) (shape_word hs) in
-    let edges = edges_among-append (half_word h) (shape_word hs) in
-    record {
-      corners = omega (arith, corners, known.corners, others.corners);
-      units = omega (arith, corners, edges, known.six, others.units);
-    }
+    let edges = edges_among-append (half_word h) (shape_word hs) in omega (arith)
 
 -- the state of a shape with these corners and these edges in unit order
 pub record LaidState (hs cs es : List ℕ) : Type 0 where
@@ -132,22 +119,7 @@ LaidState-pieces hs cs es shape corners edges =
     let units = ShapeUnits-laid hs cs es shape.below below fits in
     record {
       fits = fits;
-      valid = IsSq1-halves (laid w cs es) (record {
-        size = length-laid w cs es fits ∙ all_units;
-        corners = λ p lt. omega (arith, occurrences-laid p w cs es fits, corners.once p lt, occurrences-raised_low p es lt);
-        edges = λ p le lt.
-            let q : ℕ = p - 8 in
-            let is : 8 + q ≡ p = omega arith in
-            omega (
-              arith,
-              occurrences-laid p w cs es fits,
-              occurrences-above 8 cs below p le,
-              ap (λ v. occurrences v (raised es)) is,
-              occurrences-raised q es,
-              edges.once q (omega arith),
-            );
-        partners = λ k lt corner. units.partners k (omega (arith, shape.size)) corner;
-      });
+      valid = IsSq1-halves (laid w cs es) (grind (arith, nat_tests, length-laid, occurrences-laid, occurrences-raised_low, occurrences-above, occurrences-raised));
       shape_again = shape_of-halves (laid w cs es) ∙ ap (λ n. halves_in n (laid w cs es)) (sym shape.size) ∙ units.halves;
       corners_again = corners_of-laid w cs es fits below corners.size;
       edges_again = edges_of-laid w cs es fits below;

@@ -1,5 +1,6 @@
 -- The steps of the loops over units, as facts about lists.
-use Rattle.std.proofs.Common.{◌≡◌, ℕ, ◌<◌, List, length, slice_index, refl, sym, ap, ◌∙◌, arith}
+use Rattle.std.proofs.Common.{rules}
+use Rattle.std.proofs.Common.{◌≡◌, ℕ, ◌<◌, List, length, slice_index, sym, ◌∙◌, arith}
 use Rattle.std.proofs.lemmas.List.{ext_get_or}
 use Rattle.scr_combinatorics.specs.Lists.{pick}
 use Rattle.scr_combinatorics.proofs.Picks.{length-pick, pick-at}
@@ -17,6 +18,4 @@ picked_by_units units places out told size filled =
 pub turned_by_units : (units out : List ℕ) (n m : ℕ) → length out ≡ 24
     → ((k : ℕ) → k < 24 → slice_index out k ≡ slice_index units (place_before n m k)) → out ≡ pick units (turn_places n m)
 unfolding turn_places
-turned_by_units units out n m size filled =
-    picked_by_units units (turn_places n m) out refl size (λ k lt.
-    filled k lt ∙ ap (slice_index units) (sym (places_by-at (place_before n m) k lt)))
+turned_by_units units out n m size filled = search (arith, rules, picked_by_units, places_by-at)

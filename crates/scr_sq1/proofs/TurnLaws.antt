@@ -1,4 +1,5 @@
 -- Turns of the layers that are not barred, and twists, keep states valid.
+use Rattle.std.proofs.lemmas.Bool.Decides.{nat_tests}
 use Rattle.std.proofs.Common.{◌≡◌, ℕ, suc, ◌-◌, ◌%◌, ◌<◌, inl, inr, IsTrue, List, length, slice_index, sym, ap, ◌∙◌, subst, arith}
 use Rattle.std.specs.Prelude.{◌||◌, ◌==◌, Bool}
 use Rattle.scr_combinatorics.specs.Lists.{occurrences, pick}
@@ -65,11 +66,7 @@ IsSq1-twisted s equator h =
           let low : from < 24 = at-permutation 24 places permutation k lt in
           let here : slice_index units k ≡ slice_index s.units from = at k lt in
           elim (whole.partners from low (omega (arith, here))) [
-            | inl p ↦
-                let stays = StaysInHalf-twist k lt in
-                let inside : k % 6 < 5 = omega (arith, p.0, stays.at) in
-                let next : suc k < 24 = omega arith in
-                inl (inside, at (suc k) next ∙ ap (λ i. slice_index s.units i) (stays.behind inside) ∙ p.1 ∙ sym here)
+            | inl p ↦ (grind (arith, nat_tests, StaysInHalf-twist))
             | inr p ↦
                 let j = p.0 in
                 let i : ℕ = k - 1 in

@@ -3,10 +3,6 @@
 use Rattle.std.proofs.Common.{◌≡◌, ℕ, suc, ◌+◌, ◌%◌, ◌<◌, ◌≤◌, inl, inr, Bool, true, false, IsTrue, List, [], ◌∷◌, length, Some, None, refl, sym, ap, ◌∙◌, subst, arith, eq-eqb, eqb-true}
 use Rattle.std.specs.Prelude.{◌↔◌, All, ◌==◌, ◌&&◌, not, nat_lt, ℤ, ◌+ℤ◌}
 use Rattle.std.proofs.lemmas.Bool.{cases_eq, cases_lt, cond-true, lt-ltb, and_parts, false≢true}
-use Rattle.scr_combinatorics.specs.Lists.{pick}
-use Rattle.scr_combinatorics.specs.Permutations.{IsPermutation}
-use Rattle.scr_combinatorics.proofs.PermutationLaws.{All-permutation}
-use Rattle.scr_combinatorics.proofs.Picks.{pick-pick}
 use Rattle.scr_combinatorics.specs.Play.{play}
 use Rattle.scr_combinatorics.specs.Reach.{Needs}
 use Rattle.scr_combinatorics.proofs.PlayLaws.{play-empty, play-first, play-one, play-parts}
@@ -23,10 +19,8 @@ use Rattle.scr_table.specs.Moves.{after_move as number_turned, NeedsTurns, Never
 use Rattle.scr_table.proofs.MovesLaws.{turned-turn}
 use Rattle.scr_table.proofs.StepLaws.{taken_where}
 use Rattle.scr_table.proofs.TriedWords.{needs_test-iff as tried-iff}
-use Rattle.scr_sq1.specs.Units.{Sq1State, IsSq1, is_open, solved_sq1, clockwise, turn_places, turned, twisted, sq1_after, sq1_puzzle}
-use Rattle.scr_sq1.proofs.Places.{IsTurnTable-turn, turn_places-both}
-use Rattle.scr_sq1.proofs.Clockwise.{clockwise-lt, clockwise-twelfths, clockwise-sum}
-use Rattle.scr_sq1.proofs.Lawful.{turned-still, sq1_after-layers, sq1_after-by_layers, sq1_after-twist, twisted-twice, IsLawful-sq1}
+use Rattle.scr_sq1.specs.Units.{Sq1State, IsSq1, is_open, solved_sq1, turned, twisted, sq1_after, sq1_puzzle}
+use Rattle.scr_sq1.proofs.Lawful.{turned-still, turned-sum, sq1_after-layers, sq1_after-by_layers, sq1_after-twist, twisted-twice, IsLawful-sq1}
 use Rattle.scr_sq1.proofs.NumberedTurns.{number-after, top_of, bottom_of, twist_number, layers_number}
 use Rattle.scr_sq1solve.specs.Minima.{is_solved_sq1, sq1_moves, needs_test_sq1}
 use Rattle.scr_sq1tables.proofs.PairingStage.{same-true}
@@ -70,19 +64,6 @@ IsMoved-turned s r n e =
 
 -- ---- two turns of the layers, or two twists, right after each other
 
-turned_together : (s : Sq1State) (x y z w : ℤ)
-    → turned (turned s x y) z w ≡ turned s (twelfths (x +ℤ z)) (twelfths (y +ℤ w))
-unfolding turned
-turned_together s x y z w =
-    let p : IsPermutation 24 (turn_places (clockwise x) (clockwise y)) = (IsTurnTable-turn (clockwise x) (clockwise y) (clockwise-lt x) (clockwise-lt y)).permutation in
-    let q = (IsTurnTable-turn (clockwise z) (clockwise w) (clockwise-lt z) (clockwise-lt w)).permutation in
-    ap (λ us. let r : Sq1State = record { units = us; equator = s.equator } in r)
-    (pick-pick s.units (turn_places (clockwise x) (clockwise y)) (turn_places (clockwise z) (clockwise w))
-    (subst (λ n. All (λ k. k < n) (turn_places (clockwise z) (clockwise w))) (sym p.size) (All-permutation 24 (turn_places (clockwise z) (clockwise w)) q))
-    ∙ ap (pick s.units) (turn_places-both (clockwise x) (clockwise y) (clockwise z) (clockwise w) (clockwise-lt x) (clockwise-lt y) (clockwise-lt z) (clockwise-lt w))
-    ∙ ap (λ n. pick s.units (turn_places n ((clockwise y + clockwise w) % 12))) (sym (clockwise-twelfths (x +ℤ z) ∙ clockwise-sum x z))
-    ∙ ap (λ m. pick s.units (turn_places (clockwise (twelfths (x +ℤ z))) m)) (sym (clockwise-twelfths (y +ℤ w) ∙ clockwise-sum y w)))
-
 -- what one word of at most one turn makes
 abbrev MadeByOne : Sq1State → Sq1State → Type 0
 MadeByOne s q = (w : List ℕ) × (length w ≤ 1) × (play (number_turned sq1_moves) s w ≡ Some q)
@@ -124,7 +105,7 @@ NeverHelps-idle first second alike = λ s r q e f.
           let two = sq1_after-layers r q z w (sym (ap (sq1_after r) (layers_number second other)) ∙ b.made) in
           by_layers s q (x +ℤ z) (y +ℤ w) (are_still (twelfths (x +ℤ z)) (twelfths (y +ℤ w))) refl a.size
           (ap (λ p. is_open p.units) two.is ∙ two.opened)
-          (two.is ∙ ap (λ p. turned p z w) one.is ∙ turned_together s x y z w)
+          (two.is ∙ ap (λ p. turned p z w) one.is ∙ turned-sum s x y z w)
     ]
 
 -- ---- words of numbers and of turns

@@ -6,7 +6,7 @@ ghost use Rattle.scr_sq1.specs.Numbers.{sq1_numbered};
 ghost use Rattle.scr_sq1.specs.Units.{Sq1State, IsSq1, sq1_puzzle};
 ghost use Rattle.scr_sq1solve.specs.Minima.{needs_test_sq1};
 
-use crate::minima::Sq1Moves;
+use crate::moves::Sq1Moves;
 use scr_draw::{NumberedStates, Numbering, Permit};
 use scr_sq1::{Sq1, Sq1Numbers};
 use scr_table::no_shorter;

@@ -19,6 +19,7 @@
 mod draw;
 pub mod laws;
 mod minima;
+mod moves;
 mod short;
 mod solving;
 mod stages;

@@ -14,7 +14,7 @@ ghost use Rattle.scr_sq1tables.specs.ShapeWords.{is_shape_word};
 
 use crate::walks::{end_walk, stage_walk, walked};
 use scr_notation::{Event, NumberedWord, Scramble};
-use scr_sq1::Sq1;
+use scr_sq1::{Sq1, TWIST};
 use scr_sq1tables::{Sq1Tables, StageLetters, pairings_index, square_index};
 
 /// The solution that a word to the square shape begins, tidied: its total, of at most 76 twists and 153 turns. The word
@@ -59,6 +59,9 @@ pub(crate) fn total_of(tables: &Sq1Tables, state: &Sq1, shape_word: &[u8]) -> Nu
     joined(&equator_part(&last.end), &shaping)
 }
 
+/// The number of (6,0).
+const HALF_TURN: u8 = 137;
+
 /// The word that turns the equator alone, where it stands turned: (6,0) three times, each time behind a twist.
 #[tactic(auto, unfolding(scr_combinatorics::specs::Play::count_in, scr_notation::specs::TurnNumbers::turn_at, scr_notation::specs::TurnNumbers::layer_turn_at))]
 fn equator_part(state: &Sq1) -> NumberedWord
@@ -67,7 +70,11 @@ fn equator_part(state: &Sq1) -> NumberedWord
     ensures twists { twists_in result.turns ≤ 3 }
 {
     if state.equator() {
-        NumberedWord::of(Event::Sq1, &[65, 137, 65, 137, 65, 137])
+        let twist = TWIST as u8;
+        NumberedWord::of(
+            Event::Sq1,
+            &[twist, HALF_TURN, twist, HALF_TURN, twist, HALF_TURN],
+        )
     } else {
         NumberedWord::new(Event::Sq1)
     }

@@ -50,6 +50,4 @@ pub ruleset letter_places = (filled_more, numbers_all)
 
 pub ruleset after_part = (read-amount, after-amounts, play-top, play-bottom, play-twist)
 
-pub ruleset first_number = (cond-true, cond-false, lt-ltb, le-ltb, ints, layers_word-at, place_at, place_on, place_less, place_more)
-
-pub ruleset later_numbers = (cond-true, cond-false, lt-ltb, le-ltb)
+pub ruleset letter_numbers = (cond-true, cond-false, lt-ltb, le-ltb, ints, layers_word-at, place_at, place_on, place_less, place_more)

@@ -76,11 +76,6 @@ module _ (s : Sq1State) (word : List ℕ) (t : IsTrue (is_shape_word s word)) wh
   shape_word-goal r led =
       subst shape_stage.IsGoal (same_Some shape_word-leads.end r (sym play-shape_word ∙ led)) shape_word-leads.goal
 
--- the first stage's word is one, of at most 13 letters
-pub stage_word-is : (s : Sq1State) (word : List ℕ) → IsStageWord sq1_after shape_stage s word
-    → IsTrue (is_shape_word s word)
-stage_word-is s word is = (IsShapeWord-iff s word).1 is.first.leads
-
 -- ---- by the index
 
 module _ (s : Sq1State) (valid : IsSq1 s) where

@@ -33,48 +33,39 @@ pub fn word_of(letters: StageLetters, numbers: &[u8]) -> NumberedWord
 {
     let mut word = NumberedWord::new(Event::Sq1);
     for place in 0..numbers.len() {
-        let first = first_number(letters, numbers[place]);
+        let (first, later) = letter_numbers(letters, numbers[place]);
         if first != TWIST {
             word.push(first);
         }
-        word.push_all(later_numbers(letters, numbers[place]));
+        word.push_all(later);
     }
     word
 }
 
-/// The number of the turn of the layers with which the letter with a number begins: the twist's where it begins with
-/// none.
-#[tactic(auto, using(crate::proofs::Cited::first_number), unfolding(crate::specs::Stages::quarter_word, crate::specs::Stages::squaring_letter))]
-fn first_number(letters: StageLetters, number: u8) -> u8
+/// The turns of the letter with a number, by their numbers: the turn of the layers with which it begins, or the twist
+/// where it begins with none, and the turns behind that.
+#[tactic(auto, using(crate::proofs::Cited::letter_numbers), unfolding(crate::specs::Stages::shape_letter, crate::specs::Stages::pairing_letter, crate::specs::Stages::home_letter, crate::specs::Stages::turn_word, crate::specs::Stages::quarter_word, crate::specs::Stages::squaring_letter, scr_notation::specs::TurnNumbers::layer_turn_at))]
+fn letter_numbers(letters: StageLetters, number: u8) -> (u8, &'static [u8])
     requires { number < 144 }
-    ensures turn { layers_word result ≡ first_word letters number }
-    ensures below { result < 144 }
+    ensures turn { layers_word result.0 ≡ first_word letters number }
+    ensures letter { letter_of letters number ≡ first_word letters number ++ map layer_turn_at result.1.now }
+    ensures first { result.0 < 144 }
+    ensures later { All (λ n. n < 144) result.1.now }
+    ensures few { length result.1.now ≤ 5 }
 {
     let top = 3 * (number % 16 / 4) + 5;
     let bottom = 3 * (number % 4) + 5;
     match letters {
-        StageLetters::OfShapes => number,
-        StageLetters::OfPairings if number < 16 => 12 * (top % 12) + (bottom - 1) % 12,
-        StageLetters::OfPairings => 12 * ((top + 1) % 12) + bottom % 12,
-        StageLetters::OfHome => 12 * (top % 12) + bottom % 12,
-        StageLetters::Squarings => 12 * (5 - number % 2) + (5 + number / 2) % 12,
-        StageLetters::Quarters => 12 * ((3 * (number / 4) + 5) % 12) + bottom % 12,
-    }
-}
-
-/// The numbers of the turns of the letter with a number behind its first turn.
-#[tactic(auto, using(crate::proofs::Cited::later_numbers), unfolding(crate::specs::Stages::shape_letter, crate::specs::Stages::pairing_letter, crate::specs::Stages::home_letter, crate::specs::Stages::turn_word, scr_notation::specs::TurnNumbers::layer_turn_at))]
-fn later_numbers(letters: StageLetters, number: u8) -> &'static [u8]
-    ensures letter { letter_of letters number ≡ first_word letters number ++ map layer_turn_at result.now }
-    ensures below { All (λ n. n < 144) result.now }
-    ensures few { length result.now ≤ 5 }
-{
-    match letters {
-        StageLetters::OfShapes => &[TWIST],
-        StageLetters::OfPairings if number < 16 => &[TWIST, 66],
-        StageLetters::OfPairings => &[TWIST, 53],
-        StageLetters::OfHome if number < 16 => &[64, TWIST, 78, TWIST, 53],
-        StageLetters::OfHome => &[64, TWIST, 39, TWIST, 92],
-        StageLetters::Squarings | StageLetters::Quarters => &[],
+        StageLetters::OfShapes => (number, &[TWIST]),
+        StageLetters::OfPairings if number < 16 => {
+            (12 * (top % 12) + (bottom - 1) % 12, &[TWIST, 66])
+        }
+        StageLetters::OfPairings => (12 * ((top + 1) % 12) + bottom % 12, &[TWIST, 53]),
+        StageLetters::OfHome if number < 16 => {
+            (12 * (top % 12) + bottom % 12, &[64, TWIST, 78, TWIST, 53])
+        }
+        StageLetters::OfHome => (12 * (top % 12) + bottom % 12, &[64, TWIST, 39, TWIST, 92]),
+        StageLetters::Squarings => (12 * (5 - number % 2) + (5 + number / 2) % 12, &[]),
+        StageLetters::Quarters => (12 * ((3 * (number / 4) + 5) % 12) + bottom % 12, &[]),
     }
 }

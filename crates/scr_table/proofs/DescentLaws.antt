@@ -48,10 +48,6 @@ module _ (c : Coordinate) (table : Distances) (m : Measures c table) where
         none t r (moved-turn c p t r moves).0 moves
         (IsDistance-unique (moved c) (IsGoal c) r _ lower (m.exact r (moved-below c m.stays_below p t r lt moves)) d))
 
-  pub IsDescending-begun : (p left : ℕ) → p < c.count → get_or table.distances p 0 ≡ left → left ≤ GREATEST_BOUND
-      → IsDescending c table p [] p left
-  IsDescending-begun p left lt e small = record { position = lt; distance = e; room = omega arith; continues = λ rest f. f }
-
   module _ (p : ℕ) (word : List ℕ) (at left : ℕ) (h : IsDescending c table p word at left) where
     -- one turn down
     pub IsDescending-more : (turn next lower : ℕ) → left ≡ lower + 1 → next < c.count

@@ -1,12 +1,10 @@
 -- What is so of the entries of a table while it is built.
-use Rattle.std.proofs.Common.{◌≡◌, ◌≢◌, ℕ, zero, suc, ◌+◌, ◌<◌, ◌≤◌, ◌↔◌, Bool, true, false, List, [], ◌∷◌, ◌⊎◌, inl, inr, length, get_or, Option, Some, None, min, refl, sym, ap, ◌∙◌, subst, arith, length-set}
+use Rattle.std.proofs.Common.{◌≡◌, ◌≢◌, ℕ, zero, suc, ◌+◌, ◌<◌, ◌≤◌, Bool, true, false, List, [], ◌∷◌, ◌⊎◌, inl, inr, length, get_or, Option, Some, None, min, refl, sym, ap, ◌∙◌, subst, arith}
 use Rattle.std.specs.Prelude.{if◌then◌else◌, nat_eq}
-use Rattle.std.proofs.Math.ListN.{set}
 use Rattle.std.proofs.Math.Bool.{Bool-set}
 use Rattle.std.proofs.Math.Logic.{∥∥₁_elim, ∥∥₁_map}
 use Rattle.std.proofs.lemmas.Bool.{cases_order, cases_lt, cases_eq, eqb-true, eqb-false, lt-ltb}
 use Rattle.scr_positions.specs.Coordinates.{Coordinate, StaysBelow, moved, IsGoal, value_at}
-use Rattle.scr_positions.proofs.Written.{written_at}
 use Rattle.scr_combinatorics.specs.FirstWord.{LeadsTo, IsDistance}
 use Rattle.scr_combinatorics.proofs.FirstWordLaws.{LeadsTo-empty, IsGoal-empty, LeadsTo-cons, LeadsTo-parts, IsDistance-goal, IsGoal-distance}
 use Rattle.scr_table.specs.Distances.{Measures, IsFirstGap}
@@ -44,18 +42,6 @@ module _ (c : Coordinate) where
             | inl far ↦ absurd (omega (arith, (h.each p lt).left far [] here))
             | inr known ↦ omega (arith, ((h.each p lt).found known).least [] here)
           ]
-
-  -- what is entered in place of the mark leaves the goals alone
-  pub AreMarked-written : (entries : List ℕ) (p entry : ℕ) → p < length entries → get_or entries p 0 ≡ 255 → entry ≢ 0
-      → AreMarked c entries → AreMarked c (set entries p entry)
-  AreMarked-written entries p entry inside unknown some h = record {
-    positions = length-set entries p entry ∙ h.positions;
-    goals = λ k lt. written_at (λ k e. (e ≡ 0) ↔ IsGoal c k) entries p entry inside here k (λ _. h.goals k lt);
-  }
-    where
-      here : (entry ≡ 0) ↔ IsGoal c p
-      here =
-          (λ none. absurd (some none), λ goal. absurd (omega (arith, unknown, (h.goals p (omega (arith, inside, h.positions))).1 goal)))
 
   -- a distance that is known stays known
   pub IsKnown-found : (level next p entry : ℕ) → entry ≢ 255 → IsKnown c level p entry → IsKnown c next p entry

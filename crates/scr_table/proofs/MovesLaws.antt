@@ -1,5 +1,5 @@
 -- Looking at all short words, but for those that go on idly.
-use Rattle.std.proofs.Common.{◌≡◌, ℕ, zero, suc, ◌+◌, ◌<◌, ◌≤◌, List, [], ◌∷◌, ◌++◌, length, ◌⊎◌, inl, inr, Option, Some, None, true, false, ◌-◌, refl, sym, ap, ◌∙◌, subst, length-append, arith}
+use Rattle.std.proofs.Common.{◌≡◌, ℕ, ◌+◌, ◌<◌, List, [], ◌∷◌, ◌++◌, length, ◌⊎◌, inl, inr, Option, Some, None, true, false, ◌-◌, refl, sym, ap, ◌∙◌, subst, length-append, arith}
 use Rattle.std.specs.Prelude.{nat_lt, if◌then◌else◌}
 use borrow.Author.Tests.{ltb-true, lt-ltb}
 use Rattle.std.proofs.lemmas.Bool.{cases_order, cases_lt}
@@ -114,24 +114,6 @@ module _ {S : Type 0} (m : MoveSet S) where
 
   pub AreLeftOut-unsolved : (s : S) (before : Option ℕ) → m.is_solved s ≡ false → AreLeftOut m s before 0
   AreLeftOut-unsolved s before unsolved = AreLeftOut-tried s before 0 unsolved (λ t w lt l short. absurd (omega arith))
-
-  -- where there was no turn before, no word of at most so many turns leads to solved, since each could be made shorter
-  module _ (s : S) (most : ℕ) (h : AreLeftOut m s None most) where
-    none_short : (n : ℕ) (w : List ℕ) → length w < n → length w ≤ most → LeadsTo (after_move m) (IsSolved m) s w → ⊥
-    none_short zero w lt short l = omega arith
-    none_short (suc n) w lt short l =
-        elim (h w l short) [
-          | inl (v, leads, less) ↦ none_short n v (omega arith) (omega arith) leads
-          | inr idly ↦ idly
-        ]
-
-    pub NeedsTurns-out : NeedsTurns m s (most + 1)
-    NeedsTurns-out w l =
-        elim (cases_order (length w) (most + 1)) [
-          | inl same ↦ omega arith
-          | inr (inl less) ↦ absurd (none_short (most + 1) w less (omega arith) l)
-          | inr (inr more) ↦ omega arith
-        ]
 
 module _ {S : Type 0} (m : MoveSet S) where
   count_in-length : (w : List ℕ) → count_in (λ _. 1) w ≡ length w

@@ -10,7 +10,6 @@ use Rattle.scr_table.specs.declared.fault.BuildFault.{BuildFault}
 use Rattle.scr_table.specs.declared.fault.BuildFault.TheVariants.{NoMemory, Gap}
 use Rattle.scr_table.specs.Causes.{IsCause}
 use Rattle.scr_table.specs.Distances.{Distances, Measures, IsGap, IsFirstGap}
-use Rattle.scr_table.specs.Lines.{IsTableOf}
 
 pub StaysBelow-shown : (c shown : Coordinate) → ShowsSame c shown → StaysBelow c → StaysBelow shown
 StaysBelow-shown c shown same below p t q at turn leads =
@@ -45,11 +44,6 @@ module _ (c shown : Coordinate) (below : StaysBelow shown) (same : ShowsSame c s
     exact = λ p at. (finds_the_same.distances p (get_or table.distances p 0) (omega (arith, at, same.count))).0 (m.exact p (omega (arith, at, same.count)));
     within = λ p at. m.within p (omega (arith, at, same.count));
   }
-
-  pub IsTableOf-same : (name : TableName) (bound : ℕ) (table : Distances)
-      → IsTableOf (record { name = name; coordinate = shown; bound = bound }) table
-      → IsTableOf (record { name = name; coordinate = c; bound = bound }) table
-  IsTableOf-same name bound table is = record { name = is.name; bound = is.bound; measures = Measures-same table is.measures }
 
   -- a gap of the one is a gap of the other
   pub IsGap-same : (bound index : ℕ) → IsGap shown bound index → IsGap c bound index

@@ -1,5 +1,5 @@
 -- What a list comes to, by what its lines are.
-use Rattle.std.proofs.Common.{◌≡◌, ℕ, ◌+◌, ◌≤◌, Bool, true, false, cond, List, [], ◌∷◌, ◌++◌, drop, length, Option, Some, None, Result, Ok, Err, refl, sym, ap, ◌∙◌, subst, arith}
+use Rattle.std.proofs.Common.{◌≡◌, ℕ, ◌+◌, ◌≤◌, Bool, true, false, cond, List, [], ◌∷◌, ◌++◌, drop, length, length-append, add_assoc, Option, Some, None, Result, Ok, Err, refl, ap, ◌∙◌, subst, arith}
 use Rattle.std.specs.Prelude.{nat_lt}
 use borrow.Author.Tests.{ltb-true, ltb-false}
 use Rattle.scr_text.specs.Lines.{lines_of}
@@ -7,10 +7,10 @@ use Rattle.scr_list.specs.declared.round.Round.{Round}
 use Rattle.scr_list.specs.declared.version.Version.{Version}
 use Rattle.scr_list.specs.declared.fault.ListCause.{ListCause}
 use Rattle.scr_list.specs.declared.fault.ListFault.{ListFault}
-use Rattle.scr_list.specs.declared.fault.ListFault.TheVariants.{TooLong, Line, Read}
+use Rattle.scr_list.specs.declared.fault.ListFault.TheVariants.{TooLong, Line}
 use Rattle.scr_list.specs.Versions.{version_of}
 use Rattle.scr_list.specs.Rounds.{round_of_line, rounds_of_lines, rounds_of}
-use Rattle.scr_text_laws.specs.ListFaults.{words_of, behind_colon, IsSkipped, NamesRound, IsAtFault, NameRounds, version_line_count, IsAnswer}
+use Rattle.scr_text_laws.specs.ListFaults.{words_of, behind_colon, IsAtFault, NameRounds, version_line_count, IsAnswer}
 use Rattle.scr_text_laws.specs.ListFaults.NameRounds.{no_line, skipped, named}
 use Rattle.scr_list.proofs.RoundLemmas.{then_rounds, with_named}
 use Rattle.scr_text_laws.proofs.FaultLemmas.{LineTells, line-tells}
@@ -31,53 +31,27 @@ abbrev LinesTell : Version → ℕ → ℕ → List (List ℕ) → Result (List 
 LinesTell version before number lines (Ok rounds) =
     NameRounds version lines rounds × (before + length rounds ≤ version.most_rounds)
 LinesTell version before number lines (Err (Line line_number why)) = FaultAt version before number lines line_number why
-LinesTell version before number lines (Err (TooLong limit)) = ⊥
-LinesTell version before number lines (Err Read) = ⊥
+LinesTell version before number lines (Err _) = ⊥
 
 module _ (version : Version) (before number : ℕ) (line : List ℕ) (lines : List (List ℕ)) where
-  -- behind a line that is skipped
-  skip-more : IsSkipped (words_of version line) (behind_colon version line) → (answer : Result (List Round) ListFault)
-      → LinesTell version (before + 0) (number + 1) lines answer → LinesTell version before number (line ∷ lines) (with_named [] answer)
-  skip-more skips (Ok rounds) it = let few = it.1 in (skipped skips it.0, omega arith)
-  skip-more skips (Err (Line line_number why)) it =
-      let place = it.number_is in
-      let few = it.few in
-      let same : before + 0 + length it.rounds ≡ before + length it.rounds = omega arith in
-      record {
-        good = line ∷ it.good;
-        line = it.line;
-        behind = it.behind;
-        rounds = it.rounds;
-        lines_are = ap (λ x. line ∷ x) it.lines_are;
-        number_is = omega (arith, place);
-        are_good = skipped skips it.are_good;
-        few = omega (arith, few);
-        at_fault = subst (λ n. IsAtFault version.most_rounds n (words_of version it.line) (behind_colon version it.line) why) same it.at_fault;
-      }
-  skip-more skips (Err (TooLong limit)) it = absurd it
-  skip-more skips (Err Read) it = absurd it
-
-  -- and behind one that names a round
-  name-more : (round : Round) → NamesRound (words_of version line) (behind_colon version line) round → (answer : Result (List Round) ListFault)
-      → LinesTell version (before + 1) (number + 1) lines answer → LinesTell version before number (line ∷ lines) (with_named (round ∷ []) answer)
-  name-more round names (Ok rounds) it = let few = it.1 in (named names it.0, omega (arith, few))
-  name-more round names (Err (Line line_number why)) it =
-      let place = it.number_is in
-      let few = it.few in
-      let same : before + 1 + length it.rounds ≡ before + length (round ∷ it.rounds) = omega arith in
-      record {
-        good = line ∷ it.good;
-        line = it.line;
-        behind = it.behind;
-        rounds = round ∷ it.rounds;
-        lines_are = ap (λ x. line ∷ x) it.lines_are;
-        number_is = omega (arith, place);
-        are_good = named names it.are_good;
-        few = omega (arith, few);
-        at_fault = subst (λ n. IsAtFault version.most_rounds n (words_of version it.line) (behind_colon version it.line) why) same it.at_fault;
-      }
-  name-more round names (Err (TooLong limit)) it = absurd it
-  name-more round names (Err Read) it = absurd it
+  -- behind a line that is skipped, or names a round
+  line-more : (front : List Round)
+      → ((others : List (List ℕ)) (rounds : List Round) → NameRounds version others rounds → NameRounds version (line ∷ others) (front ++ rounds))
+      → (answer : Result (List Round) ListFault) → LinesTell version (before + length front) (number + 1) lines answer
+      → LinesTell version before number (line ∷ lines) (with_named front answer)
+  line-more front names (Ok rounds) it = (names lines rounds it.0, omega (arith, it.1, length-append front rounds))
+  line-more front names (Err (Line line_number why)) it = record {
+    good = line ∷ it.good;
+    line = it.line;
+    behind = it.behind;
+    rounds = front ++ it.rounds;
+    lines_are = cc (it.lines_are);
+    number_is = omega (arith, it.number_is);
+    are_good = names it.good it.rounds it.are_good;
+    few = omega (arith, it.few, length-append front it.rounds);
+    at_fault = rw (length-append front it.rounds, ← add_assoc before (length front) (length it.rounds)) it.at_fault;
+  }
+  line-more front names (Err _) it = absurd it
 
   more-tell : before ≤ version.most_rounds → (r : Result (Option Round) ListCause)
       → LineTells version.most_rounds before (words_of version line) (behind_colon version line) r
@@ -97,10 +71,9 @@ module _ (version : Version) (before number : ℕ) (line : List ℕ) (lines : Li
         at_fault = subst (λ n. IsAtFault version.most_rounds n (words_of version line) (behind_colon version line) why) same tells;
       }
   more-tell fits (Ok None) tells rest =
-      skip-more tells (rounds_of_lines version (before + 0) (number + 1) lines) (rest (before + 0) (omega arith))
+      line-more [] (λ others rounds. skipped tells) (rounds_of_lines version (before + 0) (number + 1) lines) (rest (before + 0) (omega arith))
   more-tell fits (Ok (Some round)) tells rest =
-      let low = tells.1 in
-      name-more round tells.0 (rounds_of_lines version (before + 1) (number + 1) lines) (rest (before + 1) (omega arith))
+      line-more (round ∷ []) (λ others rounds. named tells.0) (rounds_of_lines version (before + 1) (number + 1) lines) (rest (before + 1) (omega arith))
 
 lines-tell : (version : Version) (before number : ℕ) (lines : List (List ℕ)) → before ≤ version.most_rounds
     → LinesTell version before number lines (rounds_of_lines version before number lines)
@@ -115,12 +88,7 @@ lines-tell version before number (line ∷ lines) fits =
 list-tells : (bytes : List ℕ) (count : ℕ) → version_line_count (version_of bytes) ≡ count → length bytes ≤ (version_of bytes).most_bytes
     → (answer : Result (List Round) ListFault) → LinesTell (version_of bytes) 0 (count + 1) (drop count (lines_of bytes)) answer → IsAnswer bytes answer
 list-tells bytes count is short (Ok rounds) it =
-    let few = it.1 in
-    record {
-      short = short;
-      named = subst (λ n. NameRounds (version_of bytes) (drop n (lines_of bytes)) rounds) (sym is) it.0;
-      few = omega (arith, few);
-    }
+    record { short = short; named = rw is it.0; few = omega (arith, it.1) }
 list-tells bytes count is short (Err (Line number why)) it =
     let place = it.number_is in
     let few = it.few in
@@ -141,8 +109,7 @@ list-tells bytes count is short (Err (Line number why)) it =
         at_fault = subst (λ n. IsAtFault (version_of bytes).most_rounds n (words_of (version_of bytes) it.line) (behind_colon (version_of bytes) it.line) why) same it.at_fault;
       };
     }
-list-tells bytes count is short (Err (TooLong limit)) it = absurd it
-list-tells bytes count is short (Err Read) it = absurd it
+list-tells bytes count is short (Err _) it = absurd it
 
 pub rounds_of-IsAnswer : (bytes : List ℕ) → IsAnswer bytes (rounds_of bytes)
 unfolding rounds_of

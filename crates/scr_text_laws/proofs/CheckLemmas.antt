@@ -63,14 +63,9 @@ only-last (byte ∷ text) plain some = cut-last byte text plain
 only-line : (line : CutLine) (lines : List CutLine) → IsPlain line.bytes → cut_lines (joined_lines lines) ≡ lines → IsEndedOrLast line lines →
     cut_lines (joined_lines (line ∷ lines)) ≡ line ∷ lines
 only-line line lines plain behind (inl ended) =
-    ap cut_lines (joined-line line lines (10 ∷ []) (ap line_end ended)) ∙ cut-ended line.bytes (joined_lines lines) plain
-    ∙ ap (λ x. record { bytes = line.bytes; ended = true } ∷ x) behind
-    ∙ ap (λ e. record { bytes = line.bytes; ended = e } ∷ lines) (sym ended)
+    rw (joined-line line lines (10 ∷ []) (ap line_end ended), cut-ended line.bytes (joined_lines lines) plain, behind, ← ended) refl
 only-line line lines plain behind (inr last) =
-    ap cut_lines (joined-line line lines [] (ap line_end last.0) ∙ ap (λ x. line.bytes ++ joined_lines x) last.2
-    ∙ ap (λ x. line.bytes ++ x) joined-nothing ∙ append-nil line.bytes)
-    ∙ only-last line.bytes plain last.1
-    ∙ ap (λ e. record { bytes = line.bytes; ended = e } ∷ []) (sym last.0) ∙ ap (λ x. line ∷ x) (sym last.2)
+    rw (joined-line line lines [] (ap line_end last.0), last.2, joined-nothing, append-nil line.bytes, only-last line.bytes plain last.1, ← last.0) refl
 
 -- lines of that shape are cut from the text that is joined from them
 pub only-cut : (lines : List CutLine) → AreCut lines → cut_lines (joined_lines lines) ≡ lines
@@ -91,11 +86,7 @@ separator-same = refl
 
 same-first : (expected : ExpectedLines) (lines : List CutLine) (i j : ℕ) → IsFirstAtFault expected lines i
     → IsFirstAtFault expected lines j → i ≡ j
-same-first expected lines i j one other = elim (cases_order i j) [
-  | inl same ↦ same
-  | inr (inl less) ↦ absurd (one.at_fault (other.none_before i less))
-  | inr (inr more) ↦ absurd (other.at_fault (one.none_before j more))
-]
+same-first expected lines i j one other = grind (arith, cases_order)
 
 same-missing : (expected : ExpectedLines) → AreLawful expected → (lines : List CutLine) (i : ℕ) (one other : Missing) →
     Lacks expected lines i one → Lacks expected lines i other → one ≡ other
@@ -107,8 +98,7 @@ same-missing expected lawful lines i one other is also = by-line (line_at lines 
 
 differs-limit : (expected : ExpectedLines) (lines : List CutLine) (i : ℕ) (missing : Missing) →
     ComesTo expected lines (Err (Differs i)) → ComesTo expected lines (Err (Limit missing)) → ⊥
-differs-limit expected lines i missing differs lacks =
-    differs.1 missing (subst (λ n. Lacks expected lines n missing) (same-first expected lines lacks.0 i lacks.1 differs.0) lacks.2)
+differs-limit expected lines i missing differs lacks = grind (arith, same-first)
 
 pub one-answer : (expected : ExpectedLines) → AreLawful expected → (lines : List CutLine) (one other : Result (Unit {0}) CheckFault) →
     ComesTo expected lines one → ComesTo expected lines other → one ≡ other
@@ -122,9 +112,7 @@ one-answer expected lawful lines (Err (Differs i)) (Err (Limit missing)) is also
 one-answer expected lawful lines (Err (Limit missing)) (Ok done) is also = absurd (is.1.at_fault (also is.0))
 one-answer expected lawful lines (Err (Limit missing)) (Err (Differs i)) is also = absurd (differs-limit expected lines i missing also is)
 one-answer expected lawful lines (Err (Limit missing)) (Err (Limit other)) is also =
-    let number : also.0 ≡ is.0 = same-first expected lines also.0 is.0 also.1 is.1 in
-    ap (λ m. Err (Limit m)) (same-missing expected lawful lines is.0 missing other is.2
-    (subst (λ n. Lacks expected lines n other) number also.2))
+    grind (arith, same-missing, same-first)
 one-answer expected lawful lines (Err Read) other is also = absurd is
 
 -- what a check of some lines comes to
@@ -353,11 +341,8 @@ agreed-left-out expected body agrees = left-out-by expected body agrees (tail-of
 -- ---- no byte
 
 pub nothing-agrees : (expected : ExpectedLines) → expected.count ≡ 0 → ComesTo expected (cut_lines []) (Ok tt)
-nothing-agrees expected none =
-    subst (λ x. ComesTo expected x (Ok tt)) (sym cut-none) (comes-to-agreement expected [] tt (OfEach-none (IsFaultless expected)) (sym none))
+nothing-agrees expected none = grind (arith, cut-none, comes-to-agreement, OfEach-none, IsFaultless)
 
 pub nothing-differs : (expected : ExpectedLines) → 1 ≤ expected.count
     → ComesTo expected (cut_lines []) (Err (Differs 1))
-nothing-differs expected some =
-    subst (λ x. ComesTo expected x (Err (Differs 1))) (sym cut-none)
-    (comes-to-line expected [] [] (Differs 1) (OfEach-none (IsFaultless expected)) some refl)
+nothing-differs expected some = grind (arith, cut-none, comes-to-line, OfEach-none, IsFaultless)

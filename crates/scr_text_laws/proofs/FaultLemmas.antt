@@ -1,5 +1,5 @@
 -- What a line comes to, by what it is.
-use Rattle.std.proofs.Common.{◌≡◌, ℕ, ◌<◌, ◌≤◌, ◌≢◌, Bool, true, false, cond, List, [], ◌∷◌, length, Option, Some, None, Result, Ok, Err, refl, sym, ap, ◌∙◌, subst, arith, lit<}
+use Rattle.std.proofs.Common.{◌≡◌, ℕ, ◌<◌, ◌≤◌, ◌≢◌, Bool, true, false, cond, List, [], ◌∷◌, ◌++◌, drop, length, Option, Some, None, Result, Ok, Err, refl, sym, ap, ◌∙◌, subst, arith, lit<}
 use Rattle.std.specs.Prelude.{All, codes, nat_lt, ok_or, option_to_list, slice_get, bytes_eq}
 use Rattle.std.specs.Fmt.{decimal}
 use Rattle.std.proofs.lemmas.List.Elements.{All-cons, All-nil, All-append}
@@ -14,9 +14,9 @@ use Rattle.scr_list.specs.declared.round.Round.{Round}
 use Rattle.scr_list.specs.declared.fault.ListCause.{ListCause}
 use Rattle.scr_list.specs.declared.fault.ListCause.TheVariants as cause
 use Rattle.scr_list.specs.Events.{event_named}
-use Rattle.scr_list.specs.Names.{trimmed, is_name, name_in}
+use Rattle.scr_list.specs.Names.{name_in}
 use Rattle.scr_list.specs.Rounds.{least_of, round_name, named_round, placed_round, round_of_words}
-use Rattle.scr_text_laws.specs.ListFaults.{IsSkipped, SetsMinimum, GivesName, NamesRound, Applies, IsAtFault}
+use Rattle.scr_text_laws.specs.ListFaults.{IsSkipped, SetsMinimum, GivesName, NamesRound, Applies, IsAtFault, causes}
 use Rattle.scr_list.proofs.EventLemmas.{id-IsId, event_named-id, event_named-is}
 use Rattle.scr_text_laws.proofs.PrintedLemmas.{number_between-decimal}
 use Rattle.scr_list.proofs.RoundFacts.{number_between-is}
@@ -39,28 +39,20 @@ sets-is (Some minima) (Some word) least range is =
 
 pub sets-read : (minima : Option Minima) (word : Option (List ℕ)) (least : ℕ) → greatest_in minima ≤ 15
     → SetsMinimum minima least (option_to_list word) → least_of minima word ≡ Some least
-sets-read minima None least range sets = ap Some (sym sets)
+sets-read minima None least range sets = cc
 sets-read None (Some word) least range sets = absurd sets
-sets-read (Some minima) (Some word) least range sets =
-    ap (number_between 0 minima.greatest) sets.0 ∙ number_between-decimal 0 minima.greatest least (omega (arith, sets.1)) (omega arith) sets.1
+sets-read (Some minima) (Some word) least range sets = grind (arith, number_between-decimal)
 
 -- what follows a colon, read, and the name that it gives
 gives-is : (behind : Option (List ℕ)) (name : List ℕ) → round_name behind ≡ Some name → GivesName behind name
 unfolding name_in
 gives-is None name is = cc
-gives-is (Some text) name is = at (is_name (trimmed text)) refl is
-  where
-    at : (b : Bool) → is_name (trimmed text) ≡ b → cond b (Some (trimmed text)) None ≡ Some name
-        → (name ≡ trimmed text) × (is_name name ≡ true)
-    at true good is = let same : trimmed text ≡ name = cc in (sym same, subst (λ x. is_name x ≡ true) same good)
-    at false bad is = cc
+gives-is (Some text) name is = grind arith
 
 pub gives-read : (behind : Option (List ℕ)) (name : List ℕ) → GivesName behind name → round_name behind ≡ Some name
 unfolding name_in
 gives-read None name gives = ap Some (sym gives)
-gives-read (Some text) name gives =
-    let good : is_name (trimmed text) ≡ true = subst (λ x. is_name x ≡ true) gives.0 gives.1 in
-    rw good (ap Some (sym gives.0))
+gives-read (Some text) name gives = grind arith
 
 -- ---- a line of two words or three
 
@@ -85,91 +77,33 @@ module _ (most before : ℕ) (behind : Option (List ℕ)) (event groups : List �
   some_words : IsSkipped words behind → ⊥
   some_words skipped = let none = skipped.0 in cc
 
-  one : (why : ListCause) → Fails why → All Fails (why ∷ [])
-  one why fails = All-cons Fails why [] fails (All-nil Fails)
+  -- one that doesn't apply, behind others
+  and_fails : (earlier : List ListCause) (why : ListCause) → All Fails earlier → Fails why → All Fails (earlier ++ why ∷ [])
+  and_fails earlier why all fails = All-append Fails earlier (why ∷ []) all (All-cons Fails why [] fails (All-nil Fails))
 
   fails_words : All Fails (cause.Words ∷ [])
-  fails_words = one cause.Words (two_or_three third)
+  fails_words = and_fails [] cause.Words (All-nil Fails) (two_or_three third)
 
-  tells-no444 : Holds cause.No444 → IsAtFault most before words behind cause.No444
-  tells-no444 is = record {
-    some = some_words;
-    earlier = cause.Words ∷ [];
-    later = cause.Event ∷ cause.Groups ∷ cause.Minimum ∷ cause.Name ∷ cause.Rounds ∷ [];
-    order = refl;
-    first = fails_words;
-    applies = is;
-  }
+  -- the first that applies
+  tells : (earlier : List ListCause) (why : ListCause) (later : List ListCause) → causes ≡ earlier ++ why ∷ later
+      → All Fails earlier → Holds why → IsAtFault most before words behind why
+  tells earlier why later order first is = grind (arith, some_words)
 
   module _ (not_444 : Fails cause.No444) where
     fails_444 : All Fails (cause.Words ∷ cause.No444 ∷ [])
-    fails_444 = All-append Fails (cause.Words ∷ []) (cause.No444 ∷ []) fails_words (one cause.No444 not_444)
-
-    tells-event : Holds cause.Event → IsAtFault most before words behind cause.Event
-    tells-event is = record {
-      some = some_words;
-      earlier = cause.Words ∷ cause.No444 ∷ [];
-      later = cause.Groups ∷ cause.Minimum ∷ cause.Name ∷ cause.Rounds ∷ [];
-      order = refl;
-      first = fails_444;
-      applies = is;
-    }
+    fails_444 = and_fails (cause.Words ∷ []) cause.No444 fails_words not_444
 
     module _ (known : Fails cause.Event) where
       fails_event : All Fails (cause.Words ∷ cause.No444 ∷ cause.Event ∷ [])
-      fails_event = All-append Fails (cause.Words ∷ cause.No444 ∷ []) (cause.Event ∷ []) fails_444 (one cause.Event known)
-
-      tells-groups : Holds cause.Groups → IsAtFault most before words behind cause.Groups
-      tells-groups is = record {
-        some = some_words;
-        earlier = cause.Words ∷ cause.No444 ∷ cause.Event ∷ [];
-        later = cause.Minimum ∷ cause.Name ∷ cause.Rounds ∷ [];
-        order = refl;
-        first = fails_event;
-        applies = is;
-      }
+      fails_event = and_fails (cause.Words ∷ cause.No444 ∷ []) cause.Event fails_444 known
 
       module _ (grouped : Fails cause.Groups) where
         fails_groups : All Fails (cause.Words ∷ cause.No444 ∷ cause.Event ∷ cause.Groups ∷ [])
-        fails_groups =
-            All-append Fails (cause.Words ∷ cause.No444 ∷ cause.Event ∷ []) (cause.Groups ∷ []) fails_event (one cause.Groups grouped)
-
-        tells-minimum : Holds cause.Minimum → IsAtFault most before words behind cause.Minimum
-        tells-minimum is = record {
-          some = some_words;
-          earlier = cause.Words ∷ cause.No444 ∷ cause.Event ∷ cause.Groups ∷ [];
-          later = cause.Name ∷ cause.Rounds ∷ [];
-          order = refl;
-          first = fails_groups;
-          applies = is;
-        }
+        fails_groups = and_fails (cause.Words ∷ cause.No444 ∷ cause.Event ∷ []) cause.Groups fails_event grouped
 
         module _ (set : Fails cause.Minimum) where
           fails_minimum : All Fails (cause.Words ∷ cause.No444 ∷ cause.Event ∷ cause.Groups ∷ cause.Minimum ∷ [])
-          fails_minimum =
-              All-append Fails (cause.Words ∷ cause.No444 ∷ cause.Event ∷ cause.Groups ∷ []) (cause.Minimum ∷ []) fails_groups
-              (one cause.Minimum set)
-
-          tells-name : Holds cause.Name → IsAtFault most before words behind cause.Name
-          tells-name is = record {
-            some = some_words;
-            earlier = cause.Words ∷ cause.No444 ∷ cause.Event ∷ cause.Groups ∷ cause.Minimum ∷ [];
-            later = cause.Rounds ∷ [];
-            order = refl;
-            first = fails_minimum;
-            applies = is;
-          }
-
-          tells-rounds : Fails cause.Name → Holds cause.Rounds → IsAtFault most before words behind cause.Rounds
-          tells-rounds called is = record {
-            some = some_words;
-            earlier = cause.Words ∷ cause.No444 ∷ cause.Event ∷ cause.Groups ∷ cause.Minimum ∷ cause.Name ∷ [];
-            later = [];
-            order = refl;
-            first = All-append Fails (cause.Words ∷ cause.No444 ∷ cause.Event ∷ cause.Groups ∷ cause.Minimum ∷ []) (cause.Name ∷ [])
-                fails_minimum (one cause.Name called);
-            applies = is;
-          }
+          fails_minimum = and_fails (cause.Words ∷ cause.No444 ∷ cause.Event ∷ cause.Groups ∷ []) cause.Minimum fails_groups set
 
   -- a round's parts, each of which was read
   abbrev Tells : Result (Option Round) ListCause → Type 0
@@ -204,47 +138,34 @@ module _ (most before : ℕ) (behind : Option (List ℕ)) (event groups : List �
 
           placed-tells : (n : List ℕ) → GivesName behind n → (b : Bool) → nat_lt before most ≡ b
               → Tells (cond b (Ok (Some (record { event = e; groups = g; least = m; name = n }))) (Err cause.Rounds))
-          placed-tells n gives true low = (
-            record {
-              last = option_to_list third;
-              words_are = ap (λ w. w ∷ groups ∷ option_to_list third) (sym event_is) ∙ ap (λ w. id_of e ∷ w ∷ option_to_list third) range.2;
-              some_groups = range.0;
-              few_groups = range.1;
-              least = sets;
-              name = gives;
-            },
-            ltb-true before most low,
-          )
+          placed-tells n gives true low = grind (arith, ltb-true)
           placed-tells n gives false full =
-              tells-rounds not_444 known grouped set (λ never. never n gives) (ltb-false before most full)
+              tells (cause.Words ∷ cause.No444 ∷ cause.Event ∷ cause.Groups ∷ cause.Minimum ∷ cause.Name ∷ []) cause.Rounds [] refl
+              (and_fails (cause.Words ∷ cause.No444 ∷ cause.Event ∷ cause.Groups ∷ cause.Minimum ∷ []) cause.Name (fails_minimum not_444 known grouped set) (λ never. never n gives)) (ltb-false before most full)
 
           name-tells : (o : Option (List ℕ)) → round_name behind ≡ o → Tells (placed_round most before (with_name e g m o))
-          name-tells None is = tells-name not_444 known grouped set (λ n gives. none-some is (gives-read behind n gives))
+          name-tells None is =
+              tells (cause.Words ∷ cause.No444 ∷ cause.Event ∷ cause.Groups ∷ cause.Minimum ∷ []) cause.Name _ refl (fails_minimum not_444 known grouped set) (λ n gives. none-some is (gives-read behind n gives))
           name-tells (Some n) is = placed-tells n (gives-is behind n is) (nat_lt before most) refl
 
         -- the event that a first word names is the only one
         only-event : (other : Event) → slice_get words 0 ≡ Some (id_of other) → other ≡ e
-        only-event other is =
-            let same : event ≡ id_of other = cc in
-            let found : Some other ≡ Some e =
-            sym (event_named-id other) ∙ ap event_named (sym same ∙ sym event_is) ∙ event_named-id e in
-            cc
+        only-event other is = grind (arith, event_named-id)
 
         least-tells : (o : Option ℕ) → least_of (minima_of e) third ≡ o → Tells (placed_round most before (with_least e g o))
-        least-tells None is = tells-minimum not_444 known grouped (λ other m there sets.
+        least-tells None is = tells (cause.Words ∷ cause.No444 ∷ cause.Event ∷ cause.Groups ∷ []) cause.Minimum _ refl (fails_groups not_444 known grouped) (λ other m there sets.
             none-some is (sets-read (minima_of e) third m (id-IsId e).range
             (subst (λ x. SetsMinimum (minima_of x) m (option_to_list third)) (only-event other there) sets)))
-        least-tells (Some m) is =
-            name-tells m (sets-is (minima_of e) third m (id-IsId e).range is) (round_name behind) refl
+        least-tells (Some m) is = grind (arith, name-tells, sets-is, id-IsId)
 
       groups-tells : (o : Option ℕ) → number_between 1 26 groups ≡ o → Tells (placed_round most before (with_groups e o))
-      groups-tells None is = tells-groups not_444 known (λ g some few there.
+      groups-tells None is = tells (cause.Words ∷ cause.No444 ∷ cause.Event ∷ []) cause.Groups _ refl (fails_event not_444 known) (λ g some few there.
           let same : groups ≡ decimal g = cc in
           none-some is (ap (number_between 1 26) same ∙ number_between-decimal 1 26 g (omega arith) some few))
       groups-tells (Some g) is = least-tells g (number_between-is 1 26 groups g (lit< tt) is) (least_of (minima_of e) third) refl
 
     event-tells : (o : Option Event) → event_named event ≡ o → Tells (placed_round most before (with_event o))
-    event-tells None is = tells-event not_444 (λ e there.
+    event-tells None is = tells (cause.Words ∷ cause.No444 ∷ []) cause.Event _ refl (fails_444 not_444) (λ e there.
         let same : event ≡ id_of e = cc in none-some is (ap event_named same ∙ event_named-id e))
     event-tells (Some e) is = groups-tells e (event_named-is event e is) (number_between 1 26 groups) refl
 
@@ -253,7 +174,7 @@ module _ (most before : ℕ) (behind : Option (List ℕ)) (event groups : List �
     where
       at : (b : Bool) → bytes_eq event (codes "444") ≡ b
           → Tells (placed_round most before (cond b (Err cause.No444) (with_event (event_named event))))
-      at true is = tells-no444 (ap Some ((bytes_eq-Decides event (codes "444")).0 is))
+      at true is = tells (cause.Words ∷ []) cause.No444 _ refl fails_words (ap Some ((bytes_eq-Decides event (codes "444")).0 is))
       at false is = event-tells (λ there.
           let same : event ≡ codes "444" = cc in
           let test = (bytes_eq-Decides event (codes "444")).1 same in cc) (event_named event) refl
@@ -262,25 +183,15 @@ module _ (most before : ℕ) (behind : Option (List ℕ)) (event groups : List �
 
 tells-words : (most before : ℕ) (words : List (List ℕ)) (behind : Option (List ℕ)) → (IsSkipped words behind → ⊥)
     → length words ≢ 2 → length words ≢ 3 → IsAtFault most before words behind cause.Words
-tells-words most before words behind some not_2 not_3 = record {
-  some = some;
-  earlier = [];
-  later = cause.No444 ∷ cause.Event ∷ cause.Groups ∷ cause.Minimum ∷ cause.Name ∷ cause.Rounds ∷ [];
-  order = refl;
-  first = All-nil (λ other. Applies most before words behind other → ⊥);
-  applies = (not_2, not_3);
-}
+tells-words most before words behind some not_2 not_3 =
+    record { some = some; earlier = []; later = drop 1 causes; order = refl; first = All-nil _; applies = (not_2, not_3) }
 
 pub line-tells : (most before : ℕ) (behind : Option (List ℕ)) (words : List (List ℕ))
     → LineTells most before words behind (round_of_words most before behind words)
 unfolding round_of_words
 line-tells most before None [] = (refl, refl)
-line-tells most before (Some text) [] =
-    tells-words most before [] (Some text) (λ skipped. let none = skipped.1 in cc) (λ is. absurd (omega arith)) (λ is. absurd (omega arith))
-line-tells most before behind (event ∷ []) =
-    tells-words most before (event ∷ []) behind (λ skipped. let none = skipped.0 in cc) (λ is. absurd (omega arith)) (λ is. absurd (omega arith))
+line-tells most before (Some text) [] = grind (arith, tells-words)
+line-tells most before behind (event ∷ []) = grind (arith, tells-words)
 line-tells most before behind (event ∷ groups ∷ []) = named-tells most before behind event groups None
 line-tells most before behind (event ∷ groups ∷ least ∷ []) = named-tells most before behind event groups (Some least)
-line-tells most before behind (event ∷ groups ∷ least ∷ more ∷ others) =
-    tells-words most before (event ∷ groups ∷ least ∷ more ∷ others) behind (λ skipped. let none = skipped.0 in cc)
-    (λ is. absurd (omega arith)) (λ is. absurd (omega arith))
+line-tells most before behind (event ∷ groups ∷ least ∷ more ∷ others) = grind (arith, tells-words)

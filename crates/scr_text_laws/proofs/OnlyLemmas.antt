@@ -1,6 +1,6 @@
 -- A list comes to one answer.
 use Rattle.std.proofs.Common.{◌≡◌, ℕ, suc, ◌+◌, ◌<◌, ◌≤◌, Bool, true, false, cond, List, [], ◌∷◌, ◌++◌, drop, length, Option, Some, None, Result, Ok, Err, refl, sym, ap, ◌∙◌, subst, arith, inl, inr, ◌⊎◌, append-nil}
-use Rattle.std.specs.Prelude.{All, codes, nat_lt, slice_get}
+use Rattle.std.specs.Prelude.{All, slice_get}
 use Rattle.std.specs.Fmt.{decimal}
 use Rattle.std.proofs.lemmas.List.Elements.{All-head, All-tail}
 use Rattle.std.proofs.lemmas.Slice.Eq.{bytes_eq-Decides}
@@ -29,10 +29,8 @@ use Rattle.scr_text_laws.proofs.FaultLemmas.{LineTells, line-tells, sets-read, g
 first-one : {X : Type 0} (P : X → Type 0) (front other : List X) (behind after : List X) (x y : X)
     → front ++ x ∷ behind ≡ other ++ y ∷ after → All (λ z. P z → ⊥) front → All (λ z. P z → ⊥) other → P x → P y → x ≡ y
 first-one P [] [] behind after x y same fails fails' here here' = cc
-first-one P [] (z ∷ other) behind after x y same fails fails' here here' =
-    let is : x ≡ z = cc in absurd (All-head (λ w. P w → ⊥) z other fails' (subst P is here))
-first-one P (z ∷ front) [] behind after x y same fails fails' here here' =
-    let is : y ≡ z = cc in absurd (All-head (λ w. P w → ⊥) z front fails (subst P is here'))
+first-one P [] (z ∷ other) behind after x y same fails fails' here here' = grind (arith, All-head)
+first-one P (z ∷ front) [] behind after x y same fails fails' here here' = grind (arith, All-head)
 first-one P (z ∷ front) (w ∷ other) behind after x y same fails fails' here here' =
     let rest : front ++ x ∷ behind ≡ other ++ y ∷ after = cc in
     first-one P front other behind after x y rest (All-tail (λ v. P v → ⊥) z front fails)
@@ -42,8 +40,7 @@ first-one P (z ∷ front) (w ∷ other) behind after x y same fails fails' here 
 sets-few : (minima : Option Minima) (least : ℕ) (last : List (List ℕ)) → SetsMinimum minima least last
     → (length last ≡ 0) ⊎ (length last ≡ 1)
 sets-few minima least [] sets = inl refl
-sets-few None least (word ∷ []) sets = absurd sets
-sets-few (Some minima) least (word ∷ []) sets = inr refl
+sets-few minima least (word ∷ []) sets = inr refl
 sets-few None least (word ∷ more ∷ others) sets = absurd sets
 sets-few (Some minima) least (word ∷ more ∷ others) sets = absurd sets
 
@@ -53,28 +50,17 @@ module _ (most before : ℕ) (behind : Option (List ℕ)) where
       → least_of (minima_of round.event) third ≡ Some round.least → Rattle.scr_list.specs.Rounds.round_name behind ≡ Some round.name
       → placed_round most before (named_round (id_of round.event) (decimal round.groups) third behind) ≡ Ok (Some round)
   named-read round third low some few set called =
-      let fits : nat_lt before most ≡ true = lt-ltb before most low in
-      rw (
-        (id-IsId round.event).not_444,
-        event_named-id round.event,
-        number_between-decimal 1 26 round.groups (omega arith) some few,
-        set,
-        called,
-        fits,
-      ) refl
+      grind (arith, lt-ltb, id-IsId, event_named-id, number_between-decimal)
 
   last-read : (words : List (List ℕ)) (round : Round) → NamesRound words behind round → before < most → (last : List (List ℕ))
       → SetsMinimum (minima_of round.event) round.least last
       → round_of_words most before behind (id_of round.event ∷ decimal round.groups ∷ last) ≡ Ok (Some round)
   unfolding round_of_words
-  last-read words round names low [] sets =
-      named-read round None low names.some_groups names.few_groups
-      (sets-read (minima_of round.event) None round.least (id-IsId round.event).range sets) (gives-read behind round.name names.name)
+  last-read words round names low [] sets = grind (arith, named-read, sets-read, id-IsId, gives-read)
   last-read words round names low (word ∷ []) sets =
       named-read round (Some word) low names.some_groups names.few_groups
       (sets-read (minima_of round.event) (Some word) round.least (id-IsId round.event).range sets) (gives-read behind round.name names.name)
-  last-read words round names low (word ∷ more ∷ others) sets =
-      elim (sets-few (minima_of round.event) round.least (word ∷ more ∷ others) sets) [ inl none ↦ absurd (omega arith) | inr one ↦ absurd (omega arith) ]
+  last-read words round names low (word ∷ more ∷ others) sets = grind (arith, sets-few)
 
   names-read : (words : List (List ℕ)) (round : Round) → NamesRound words behind round → before < most
       → round_of_words most before behind words ≡ Ok (Some round)
@@ -85,21 +71,10 @@ module _ (most before : ℕ) (behind : Option (List ℕ)) where
   -- and no cause applies to it
   names-fails : (words : List (List ℕ)) (round : Round) → NamesRound words behind round → before < most → (why : ListCause)
       → Applies most before words behind why → ⊥
-  names-fails words round names low cause.Words applies =
-      let size = ap length names.words_are in
-      elim (sets-few (minima_of round.event) round.least names.last names.least) [
-        | inl none ↦ applies.0 (omega (arith, size, none))
-        | inr one ↦ applies.1 (omega (arith, size, one))
-      ]
-  names-fails words round names low cause.No444 applies =
-      let first : slice_get words 0 ≡ Some (id_of round.event) = ap (λ ws. slice_get ws 0) names.words_are in
-      let same : id_of round.event ≡ codes "444" = cc in
-      let test = (bytes_eq-Decides (id_of round.event) (codes "444")).1 same in
-      let other = (id-IsId round.event).not_444 in
-      cc
+  names-fails words round names low cause.Words applies = grind (arith, sets-few)
+  names-fails words round names low cause.No444 applies = grind (arith, bytes_eq-Decides, id-IsId)
   names-fails words round names low cause.Event applies = applies round.event (ap (λ ws. slice_get ws 0) names.words_are)
-  names-fails words round names low cause.Groups applies =
-      applies round.groups names.some_groups names.few_groups (ap (λ ws. slice_get ws 1) names.words_are)
+  names-fails words round names low cause.Groups applies = grind arith
   names-fails words round names low cause.Minimum applies =
       applies round.event round.least (ap (λ ws. slice_get ws 0) names.words_are)
       (subst (λ ws. SetsMinimum (minima_of round.event) round.least (drop 2 ws)) (sym names.words_are) names.least)
@@ -141,32 +116,23 @@ module _ (version : Version) where
       → before + length rounds ≤ version.most_rounds
       → read before number (lines ++ rest) ≡ with_named rounds (read (before + length rounds) (number + length lines) rest)
   unfolding rounds_of_lines
-  lines-pass no_line before number rest few =
-      let b : before ≡ before + 0 = omega arith in
-      let n : number ≡ number + 0 = omega arith in
-      sym (with_named-none (read before number rest)) ∙ ap (λ x. with_named [] (read x number rest)) b
-      ∙ ap (λ x. with_named [] (read (before + 0) x rest)) n
+  lines-pass no_line before number rest few = grind (arith, with_named-none)
   lines-pass (skipped {line} {lines} {rounds} skips more) before number rest few =
       let is : round_of_line version before line ≡ Ok None =
       line-only version.most_rounds before (behind_colon version line) (words_of version line) (Ok None) skips in
       let b : before + 0 + length rounds ≡ before + length rounds = omega arith in
       let n : number + 1 + length lines ≡ number + suc (length lines) = omega arith in
-      rw is
-      (with_named-none (read (before + 0) (number + 1) (lines ++ rest))
-      ∙ lines-pass more (before + 0) (number + 1) rest (omega arith)
-      ∙ ap (λ x. with_named rounds (read x (number + 1 + length lines) rest)) b
-      ∙ ap (λ x. with_named rounds (read (before + length rounds) x rest)) n)
+      rw (is, ← b, ← n)
+      (with_named-none (read (before + 0) (number + 1) (lines ++ rest)) ∙ lines-pass more (before + 0) (number + 1) rest (omega arith))
   lines-pass (named {line} {lines} {round} {rounds} names more) before number rest few =
       let low : before < version.most_rounds = omega arith in
       let is : round_of_line version before line ≡ Ok (Some round) =
       line-only version.most_rounds before (behind_colon version line) (words_of version line) (Ok (Some round)) (names, low) in
       let b : before + 1 + length rounds ≡ before + suc (length rounds) = omega arith in
       let n : number + 1 + length lines ≡ number + suc (length lines) = omega arith in
-      rw is
+      rw (is, ← b, ← n)
       (ap (with_named (round ∷ [])) (lines-pass more (before + 1) (number + 1) rest (omega arith))
-      ∙ with_named-more round rounds (read (before + 1 + length rounds) (number + 1 + length lines) rest)
-      ∙ ap (λ x. with_named (round ∷ rounds) (read x (number + 1 + length lines) rest)) b
-      ∙ ap (λ x. with_named (round ∷ rounds) (read (before + suc (length rounds)) x rest)) n)
+      ∙ with_named-more round rounds (read (before + 1 + length rounds) (number + 1 + length lines) rest))
 
   -- a line at fault ends the reading
   fault-read : (before number : ℕ) (line : List ℕ) (behind : List (List ℕ)) (why : ListCause)
@@ -210,14 +176,11 @@ answer-only bytes (Err (Line number why)) it =
     let first : ℕ = version_line_count (version_of bytes) + 1 in
     let few : 0 + length at.rounds ≤ version.most_rounds = let h = at.few in omega arith in
     let none : length at.rounds ≡ 0 + length at.rounds = omega arith in
-    let place = at.place_is in
-    let told = it.number_is in
     let line_number : first + length at.good ≡ number = omega arith in
     short-read bytes it.short ∙ ap (rounds_of_lines version 0 first) at.lines_are
     ∙ lines-pass version at.are_good 0 first (at.line ∷ at.behind) few
     ∙ ap (with_named at.rounds) (fault-read version (0 + length at.rounds) (first + length at.good) at.line at.behind why
     (subst (λ n. IsAtFault version.most_rounds n (words_of version at.line) (behind_colon version at.line) why) none at.at_fault))
     ∙ ap (λ n. Err (Line n why)) line_number
-answer-only bytes (Err (TooLong limit)) it =
-    rounds_of-long bytes (version_of bytes) refl (subst (λ n. n < length bytes) it.0 it.1) ∙ ap (λ n. Err (TooLong n)) (sym it.0)
+answer-only bytes (Err (TooLong limit)) it = grind (arith, rounds_of-long)
 answer-only bytes (Err Read) it = absurd it

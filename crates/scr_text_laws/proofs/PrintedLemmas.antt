@@ -52,8 +52,7 @@ digit-no_colon : (b : ℕ) → is_ascii_digit b ≡ true → is_colon b ≡ fals
 digit-no_colon b digit = grind (arith, nat_tests)
 
 decimal-no_colon : (n : ℕ) → n < 2 ^ 64 → All (λ b. is_colon b ≡ false) (decimal n)
-decimal-no_colon n low = λ k d h.
-    digit-no_colon (get_or (decimal n) k d) (AllPass-from_list_all is_ascii_digit (decimal n) (digits_decimal digits_model n low) k d h)
+decimal-no_colon n low = grind (arith, digit-no_colon, get_or, AllPass-from_list_all, digits_decimal, digits_model)
 
 decimal-IsShortWord : (n : ℕ) → n < 27 → IsShortWord (decimal n)
 decimal-IsShortWord n low =
@@ -80,16 +79,7 @@ named-round : (most before : ℕ) (round : Round) (least name : Option (List ℕ
     least_of (minima_of round.event) least ≡ Some round.least → round_name name ≡ Some round.name →
     placed_round most before (named_round (id_of round.event) (decimal round.groups) least name) ≡ Ok (Some round)
 named-round most before round least name low it set called =
-    let few = it.few_groups in
-    let fits : nat_lt before most ≡ true = lt-ltb before most low in
-    rw (
-      (id-IsId round.event).not_444,
-      event_named-id round.event,
-      number_between-decimal 1 26 round.groups (omega arith) it.some_groups few,
-      set,
-      called,
-      fits,
-    ) refl
+    grind (arith, lt-ltb, id-IsId, event_named-id, number_between-decimal)
 
 round_words-named : (form : Bool) (most before : ℕ) (round : Round) (name : Option (List ℕ)) → before < most → IsRound round → FitsForm form round →
     round_name name ≡ Some round.name → round_of_words most before name (round_words form round) ≡ Ok (Some round)
@@ -158,10 +148,7 @@ parts-read false front (byte ∷ name) plain it fits = cc
 round_line-read : (form : Bool) (version : Version) (before : ℕ) (round : Round) → before < version.most_rounds → IsRound round → FitsForm form round → FitsNames version.takes_names round.name →
     round_of_line version before (round_line form round) ≡ Ok (Some round)
 round_line-read form version before round low it usual fits =
-    let parts = parts-read version.takes_names (told_line form round) round.name (told_line-no_colon form round it) it.name fits in
-    ap (λ words. round_of_words version.most_rounds before (name_part version.takes_names (round_line form round)) words)
-    (ap line_words parts.0 ∙ told_line-words form round it)
-    ∙ round_words-named form version.most_rounds before round (name_part version.takes_names (round_line form round)) low it usual parts.1
+    grind (arith, parts-read, told_line-no_colon, told_line-words, round_words-named)
 
 -- ---- the lines
 
@@ -170,10 +157,9 @@ join-short : (words : List (List ℕ)) → All IsShortWord words → length (joi
 join-short [] all = omega arith
 join-short (word ∷ []) all = let short = (All-head IsShortWord word [] all).short in omega arith
 join-short (word ∷ next ∷ words) all =
-    let here = (All-head IsShortWord word (next ∷ words) all).short in
     let more = join-short (next ∷ words) (All-tail IsShortWord word (next ∷ words) all) in
     let joined = length-append word (32 ∷ join_with_byte 32 (next ∷ words)) in
-    omega (arith, here, more, joined)
+    omega (arith, ((All-head IsShortWord word (next ∷ words) all).short), more, joined)
 
 length-round_words : (form : Bool) (round : Round) → length (round_words form round) ≤ 3
 length-round_words form round = at form (minima_of round.event)
@@ -222,11 +208,10 @@ lines-short : (form : Bool) (most : ℕ) (rounds : List Round) → All IsRound r
     length (text_of_lines (map (round_line form) rounds)) ≤ (19 + most) * length rounds
 lines-short form most [] all few = omega arith
 lines-short form most (round ∷ rest) all few =
-    let line = round_line-short form round (All-head IsRound round rest all) in
     let name = All-head (λ r. length (name_behind_colon r.name) ≤ most) round rest few in
     let more = lines-short form most rest (All-tail IsRound round rest all) (All-tail (λ r. length (name_behind_colon r.name) ≤ most) round rest few) in
     let joined = length-append (round_line form round) (10 ∷ text_of_lines (map (round_line form) rest)) in
-    omega (arith, line, name, more, joined)
+    omega (arith, (round_line-short form round (All-head IsRound round rest all)), name, more, joined)
 
 -- the empty line behind the last round names none
 no_line-read : (takes_names : Bool) (most before : ℕ)
@@ -239,8 +224,7 @@ lines-read : (form : Bool) (version : Version) (done : List Round) (number : ℕ
     All (λ round. FitsNames version.takes_names round.name) rounds → length done + length rounds ≤ version.most_rounds →
     read_on version done number (map (round_line form) rounds ++ [] ∷ []) ≡ Ok (done ++ rounds)
 lines-read form version done number [] all usual fits few =
-    read_on-none version done number [] [] (no_line-read version.takes_names version.most_rounds (length done))
-    ∙ read_on-end version done (number + 1) ∙ ap Ok (sym (append-nil done))
+    grind (arith, read_on-none, no_line-read, read_on-end, append-nil)
 lines-read form version done number (round ∷ rest) all usual fits few =
     let it = All-head IsRound round rest all in
     let size = length-append done (round ∷ []) in
@@ -263,12 +247,7 @@ lines_of-rounds form rounds all =
 first-version : (form : Bool) (rounds : List Round) → version_of (text_of_rounds version_1 form rounds) ≡ version_1
 unfolding version_of
 first-version form [] = refl
-first-version form (round ∷ rest) =
-    let behind = 32 ∷ join_with_byte 32 (decimal round.groups ∷ least_words form (minima_of round.event) round.least) in
-    let others = 10 ∷ text_of_lines (map (round_line form) rest) in
-    ap version_of
-    (append_assoc (told_line form round) (name_behind_colon round.name) others ∙ append_assoc (id_of round.event) behind (name_behind_colon round.name ++ others))
-    ∙ version_of-id round.event (behind ++ (name_behind_colon round.name ++ others))
+first-version form (round ∷ rest) = grind (arith, append_assoc, version_of-id)
 
 pub first-read : (form : Bool) (rounds : List Round) → IsRounds rounds → length rounds ≤ 64 → All (λ round. round.name ≡ []) rounds → All (FitsForm form) rounds →
     rounds_of (text_of_rounds version_1 form rounds) ≡ Ok rounds

@@ -18,9 +18,6 @@ pub weigh-append : (h : ℕ → ℕ) (xs ys : List ℕ) → weigh h (xs ++ ys) �
 weigh-append h [] ys = omega arith
 weigh-append h (x ∷ xs) ys = let r = weigh-append h xs ys in omega arith
 
-pub weigh-one : (h : ℕ → ℕ) (x : ℕ) → weigh h (x ∷ []) ≡ h x
-weigh-one h x = omega arith
-
 -- no fewer than n numbers below n are below m, or m and more
 pub from_below : (m n : ℕ) → n ≤ weigh_below (from m) n + m
 from_below m zero = omega arith
@@ -98,12 +95,6 @@ EachView-set P views id w each own seat u e = grind (arith, ⊎_elim, at_set)
 EachView-snoc : (P : Claims → Type 0) (views : List Claims) (w : Claims) → EachView P views → P w
     → EachView P (views ++ w ∷ [])
 EachView-snoc P views w each own seat u e = grind (arith, ⊎_elim, at_snoc)
-
-EachView-one : (P : Claims → Type 0) (w : Claims) → P w → EachView P (w ∷ [])
-EachView-one P w = EachView-snoc P [] w (λ seat u e. absurd (some-ne-none u (sym e)))
-
-pub opens : IsKept (0 ∷ []) (claims 64 [] ∷ [])
-opens = grind (arith, EachView-one)
 
 -- a claim: the old word goes to the end of the list
 pub claims_keep : (slots id : ℕ) (m : Me (Unit {0}) Claims) → 1 ≤ m.0.weight → weigh (from 4294967296) m.0.list ≡ 0

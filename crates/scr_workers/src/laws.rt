@@ -56,23 +56,10 @@ pub fn gather<J: Jobs>(jobs: &J, lanes: &mut [Lane<J::Out>], out: &mut [Option<J
     ensures own { All (λ lane. own_of lane ≡ []) lanes.new }
     ensures room { KeepRoom lanes.old lanes.new }
 {
-    for k in 0..lanes.len() {
-        place_answers(jobs, &mut lanes[k], out);
-    }
-}
-
-/// Moves the answers of one lane to their places; places that have an answer keep one.
-fn place_answers<J: Jobs>(jobs: &J, lane: &mut Lane<J::Out>, out: &mut [Option<J::Out>])
-    requires { All (HasSlotAnswer (length out.old) (J.is_answer jobs.now)) lane.old.own.items }
-    ensures seat { lane.new.seat ≡ lane.old.seat }
-    ensures own { lane.new.own.items ≡ [] }
-    ensures room { vec_capacity lane.new.own ≡ vec_capacity lane.old.own }
-    ensures kept { (k : ℕ) → HasAnswer (J.is_answer jobs.now) out.old k → HasAnswer (J.is_answer jobs.now) out.new k }
-    ensures placed { (k : ℕ) → 0 < times k (map slot_of lane.old.own.items)
-        → HasAnswer (J.is_answer jobs.now) out.new k }
-{
-    while let Some((slot, answer)) = lane.own.pop() {
-        out[slot as usize] = Some(answer);
+    for lane in lanes.iter_mut() {
+        while let Some((slot, answer)) = lane.own.pop() {
+            out[slot as usize] = Some(answer);
+        }
     }
 }
 

@@ -7,20 +7,10 @@ use Rattle.scr_orbit.proofs.Places.{total-take_suc}
 use Rattle.scr_orbit.proofs.validity.are_completed.Goals as goal
 
 pub returns-then-digit-base : goal.returns-then-digit-base
-returns-then-digit-base c = (
-  λ h. absurd (false≢true h),
-  λ h. absurd (omega (arith, h.0 c.loop-digit.digit-index 0 c.loop-digit-test.true, c.if-digit-base.true)),
-)
+returns-then-digit-base c = grind (arith, false≢true)
 
 pub loop-digit-preserved : goal.loop-digit-preserved
-loop-digit-preserved c =
-    let i = c.loop-digit.digit-index in
-    let more = total-take_suc c.args.digits.now i c.loop-digit-test.true in
-    record {
-      below = below_more _ _ c.loop-digit.invariant.below (omega arith);
-      summed = rw add-one (omega (arith, more, c.loop-digit.invariant.summed, c.from-sum.ensures));
-      fits = omega (arith, c.type_inv.digits i, c.loop-digit.invariant.fits, c.from-sum.ensures);
-    }
+loop-digit-preserved c = grind (arith, total-take_suc, below_more, add-one)
 
 pub returns : goal.returns
 returns c =

@@ -1,4 +1,4 @@
-use Rattle.std.proofs.Common.{length, arith, refl, sym, ◌∙◌, below_more}
+use Rattle.std.proofs.Common.{arith, sym, ◌∙◌, below_more}
 use Rattle.std.proofs.lemmas.Bool.{false≢true, eq-eqb, eqb-true}
 use Rattle.scr_combinatorics.proofs.PermutationLaws.{IsPermutation-from_each}
 use Rattle.scr_orbit.proofs.Places.{occurrences-contained, contained-occurs}
@@ -14,14 +14,7 @@ returns-then-not-contains c = (
 )
 
 pub loop-number-preserved : goal.loop-number-preserved
-loop-number-preserved c =
-    let n = c.loop-number.number in
-    let there = c.if-not-contains.ensures.cases in
-    below_more _ _ c.loop-number.invariant
-    (occurrences-contained c.args.list.now n (there.0, there.1, eqb-true _ n (there.2 n)))
+loop-number-preserved c = grind (arith, below_more, occurrences-contained, eqb-true)
 
 pub returns : goal.returns
-returns c = (
-  λ h. IsPermutation-from_each (length c.args.list.now) c.args.list.now refl (λ k lt. c.loop-number.invariant k (omega arith)),
-  λ h. refl,
-)
+returns c = grind (arith, IsPermutation-from_each)

@@ -13,27 +13,27 @@ loop-place-preserved c =
     let letters = c.args.letters in
     let numbers = c.args.numbers.now in
     let event = ap (λ (w : Written). w.event) l.invariant.0 in
-    let first = c.first_number-first.result in
+    let first = c.letter_numbers-first.result.0 in
     let begun = elim c.if-first-ne-TWIST.branch as (λ _. c.if-first-ne-TWIST.word ≡ written (l.word.turns ++ layers_word first)) [
       | then-first-ne-TWIST w ↦ first-written l.word c.if-first-ne-TWIST.word first event w.if-first-ne-TWIST.true (w.word-is ∙ w.push.ensures)
       | else-first-ne-TWIST w ↦ first-left_out l.word c.if-first-ne-TWIST.word first event w.if-first-ne-TWIST.false w.word-is
     ] in
     let n = slice_index numbers l.place in
     let lt : l.place < length numbers = c.loop-place-test.true in
-    let more = letter-written c.if-first-ne-TWIST.word c.push_all.new.self l.word.turns (first_word letters n) (letter_of letters n) c.later_numbers.result.now
-    (begun ∙ ap (λ ts. written (l.word.turns ++ ts)) c.first_number-first.ensures.turn) c.push_all.ensures c.later_numbers.ensures.letter in
+    let more = letter-written c.if-first-ne-TWIST.word c.push_all.new.self l.word.turns (first_word letters n) (letter_of letters n) c.letter_numbers-first.result.1.now
+    (begun ∙ ap (λ ts. written (l.word.turns ++ ts)) c.letter_numbers-first.ensures.turn) c.push_all.ensures c.letter_numbers-first.ensures.letter in
     let turns = ap (λ (w : Written). w.turns) l.invariant.0 in (
       more ∙ ap written (ap (λ ts. ts ++ letter_of letters n) turns ∙ sym (spelled-more (letter_of letters) numbers l.place lt)),
       omega (
         arith,
         ap (λ (w : Written). length w.turns) more,
         length-append l.word.turns (letter_of letters n),
-        ap length c.later_numbers.ensures.letter,
-        length-append (first_word letters n) (map layer_turn_at c.later_numbers.result.now),
-        length-map c.later_numbers.result.now layer_turn_at,
-        ap length c.first_number-first.ensures.turn,
+        ap length c.letter_numbers-first.ensures.letter,
+        length-append (first_word letters n) (map layer_turn_at c.letter_numbers-first.result.1.now),
+        length-map c.letter_numbers-first.result.1.now layer_turn_at,
+        ap length c.letter_numbers-first.ensures.turn,
         length-layers_word first,
-        c.later_numbers.ensures.few,
+        c.letter_numbers-first.ensures.few,
         l.invariant.1,
       ),
     )

@@ -9,14 +9,10 @@ use Rattle.scr_orbit.proofs.placed.Placed.inverse.Goals.{then-digit-eq0, else-di
 use Rattle.scr_orbit.proofs.placed.Placed.inverse.Goals as goal
 
 pub bounds-pieces-to : goal.bounds-pieces-to
-bounds-pieces-to g c =
-    let own = subst (λ (x : Orbit). IsPermutation g.row.N x.pieces) (sym c.self.view_is) c.requires.valid.pieces in
-    omega (arith, c.from-to.ensures, at-permutation g.row.N c.self.inside.pieces own c.loop-place.place c.loop-place-test.true)
+bounds-pieces-to g c = grind (arith, at-permutation)
 
 pub bounds-digits-to : goal.bounds-digits-to
-bounds-digits-to g c =
-    let own = subst (λ (x : Orbit). IsPermutation g.row.N x.pieces) (sym c.self.view_is) c.requires.valid.pieces in
-    omega (arith, c.from-to.ensures, at-permutation g.row.N c.self.inside.pieces own c.loop-place.place c.loop-place-test.true)
+bounds-digits-to g c = grind (arith, at-permutation)
 
 pub loop-place-preserved : goal.loop-place-preserved
 loop-place-preserved g c =

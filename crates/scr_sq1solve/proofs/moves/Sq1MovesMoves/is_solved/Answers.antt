@@ -3,7 +3,7 @@ use Rattle.scr_table.proofs.TriedWords.{same_truth}
 use Rattle.scr_sq1.specs.Units.{solved_sq1}
 use Rattle.scr_sq1solve.specs.Minima.{is_solved_sq1}
 use Rattle.scr_sq1solve.proofs.MinimaLaws.{is_solved-iff}
-use Rattle.scr_sq1solve.proofs.minima.Sq1MovesMoves.is_solved.Goals as goal
+use Rattle.scr_sq1solve.proofs.moves.Sq1MovesMoves.is_solved.Goals as goal
 
 pub returns-then-not-equator : goal.returns-then-not-equator
 returns-then-not-equator c =

@@ -1,7 +1,7 @@
 use Rattle.std.proofs.Common.{sym, ◌∙◌, eq-eqb}
 use Rattle.std.proofs.lemmas.Bool.{not-true, ne_eqb}
 use Rattle.scr_sq1solve.proofs.MinimaLaws.{NeverHelps-idle}
-use Rattle.scr_sq1solve.proofs.minima.Sq1MovesMoves.is_idle.Goals as goal
+use Rattle.scr_sq1solve.proofs.moves.Sq1MovesMoves.is_idle.Goals as goal
 
 pub returns-then-first-eq-TWIST : goal.returns-then-first-eq-TWIST
 returns-then-first-eq-TWIST c = λ t. NeverHelps-idle c.args.first c.args.second (eq-eqb c.args.first 65 c.if-first-eq-TWIST.true ∙ sym t)
