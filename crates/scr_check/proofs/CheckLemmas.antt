@@ -66,12 +66,6 @@ ended-by true full = refl
 ended-by false full = absurd (omega (arith, full refl))
 
 module _ {S : Type 0} (left : S → Option (List ℕ)) (faults ends : S → ℕ) where
-  -- a line was read whole
-  pub line-good : (before after : Reading S) (expected : ExpectedLines) (i : ℕ) (text : List ℕ) → IsPlain text →
-      Takes left faults ends before after (text ++ 10 ∷ []) → expected.IsAnswer i text (Ok true) →
-      ChecksLine left faults ends before after expected i (Ok tt)
-  line-good before after expected i text plain takes agrees = record { text = text; takes = takes; plain = plain; agrees = agrees }
-
   -- an ended line, read whole, comes to a fault
   line-ended : (before after : Reading S) (expected : ExpectedLines) (i : ℕ) (text : List ℕ) (fault : CheckFault) → IsPlain text →
       Takes left faults ends before after (text ++ 10 ∷ []) → length text ≤ most_bytes →

@@ -62,10 +62,6 @@ pub number-later : (low count x : ℕ) (xs : List ℕ) → (x ≡ low → ⊥)
     → place_set_number_from low (suc count) (x ∷ xs) ≡ binomial count (length xs) + place_set_number_from (suc low) count (x ∷ xs)
 number-later low count x xs e = cond-false (eqb x low) _ _ (ne_eqb x low e)
 
-pub number-empty : (low count : ℕ) → place_set_number_from low count [] ≡ 0
-number-empty low zero = refl
-number-empty low (suc count) = refl
-
 -- a set that begins at `low`, from there on
 from_low : (low n x : ℕ) (xs : List ℕ) → x ≡ low → IsPlaceSetFrom low n (x ∷ xs) → IsPlaceSetFrom (suc low) n xs
 from_low low n x xs e h = subst (λ z. IsPlaceSetFrom (suc z) n xs) e h.2
@@ -151,10 +147,6 @@ set-takes low count k r lt = cond-true (ltb r (binomial count k)) _ _ (lt-ltb r 
 pub set-skips : (low count k r : ℕ) → binomial count k ≤ r
     → place_set_from low (suc count) (suc k) r ≡ place_set_from (suc low) count (suc k) (r - binomial count k)
 set-skips low count k r ge = cond-false (ltb r (binomial count k)) _ _ (le-ltb r (binomial count k) ge)
-
-pub set-none : (low count r : ℕ) → place_set_from low count 0 r ≡ []
-set-none low zero r = refl
-set-none low (suc count) r = refl
 
 -- a list of k places from `low` on with number r
 pub record HasNumber (low count n k r : ℕ) (xs : List ℕ) : Type 0 where

@@ -3,7 +3,7 @@ use Rattle.std.proofs.Common.{◌≡◌, ℕ, zero, suc, ◌-◌, ◌*◌, ◌�
 use Rattle.std.specs.Prelude.{replicate}
 use Rattle.scr_combinatorics.specs.Digits.{mixed_number}
 use Rattle.scr_combinatorics.specs.Lists.{lesser_count, numbers_from}
-use Rattle.scr_combinatorics.specs.Permutations.{factorial, permutation_number}
+use Rattle.scr_combinatorics.specs.Permutations.{permutation_number}
 use Rattle.scr_combinatorics.specs.Twists.{twists_number}
 use Rattle.scr_combinatorics.proofs.Counts.{one_if-ge}
 use Rattle.scr_orbit.specs.Orbits.{zeros}
@@ -22,12 +22,7 @@ lesser_count-above x start (suc n) le = omega (arith, one_if-ge start x le, less
 
 permutation_number-numbers : (start n : ℕ) → permutation_number (numbers_from start n) ≡ 0
 permutation_number-numbers start zero = refl
-permutation_number-numbers start (suc n) =
-    omega (
-      arith,
-      ap (λ k. k * factorial (length (numbers_from (suc start) n))) (lesser_count-above start (suc start) n (omega arith)),
-      permutation_number-numbers (suc start) n,
-    )
+permutation_number-numbers start (suc n) = grind (arith, lesser_count-above, permutation_number-numbers (suc start) n)
 
 pub permutation_number-in_order : (n : ℕ) → permutation_number (numbers_from 0 n) ≡ 0
 permutation_number-in_order n = permutation_number-numbers 0 n

@@ -1,5 +1,5 @@
 -- Laws of the places of marked pieces, on which it rests that place sets are a coordinate.
-use Rattle.std.proofs.Common.{◌≡◌, ℕ, zero, suc, ◌+◌, ◌<◌, ◌≤◌, Bool, true, false, cond, eqb, List, [], ◌∷◌, length, refl, sym, ap, ◌∙◌, subst, arith, inl, inr}
+use Rattle.std.proofs.Common.{◌≡◌, ℕ, zero, suc, ◌+◌, ◌<◌, ◌≤◌, Bool, false, cond, eqb, List, [], ◌∷◌, length, refl, sym, ap, ◌∙◌, subst, arith, inl, inr}
 use Rattle.std.specs.Prelude.{All, ◌||◌}
 use Rattle.std.proofs.lemmas.Bool.{cases_eq, eq-eqb, ne_eqb}
 use Rattle.std.proofs.lemmas.List.Elements.{All-head, All-tail, All-nil, All-cons}
@@ -17,27 +17,23 @@ use Rattle.scr_coord.specs.Projections.{marked_from, stands_in, turned_set}
 -- a place, and the later ones
 IsPlaceSetFrom-marked_by : (marked : ℕ → Bool) (low n : ℕ) (b : Bool) (rest : List ℕ) → low < n
     → IsPlaceSetFrom (suc low) n rest → IsPlaceSetFrom low n (cond b (low ∷ rest) rest)
-IsPlaceSetFrom-marked_by marked low n true rest lt h = (omega arith, lt, h)
-IsPlaceSetFrom-marked_by marked low n false rest lt h = IsPlaceSetFrom-lower low n rest h
+IsPlaceSetFrom-marked_by marked low n b rest h0 h1 = grind (arith, IsPlaceSetFrom-lower)
 
 -- the places of marked pieces are an increasing list
 pub IsPlaceSetFrom-marked : (marked : ℕ → Bool) (low n : ℕ) (xs : List ℕ) → n ≡ low + length xs
     → IsPlaceSetFrom low n (marked_from marked low xs)
 IsPlaceSetFrom-marked marked low n [] e = tt
 IsPlaceSetFrom-marked marked low n (x ∷ xs) e =
-    IsPlaceSetFrom-marked_by marked low n (marked x) (marked_from marked (suc low) xs) (omega (arith, e))
-    (IsPlaceSetFrom-marked marked (suc low) n xs (omega (arith, e)))
+    grind (arith, IsPlaceSetFrom-marked_by, IsPlaceSetFrom-marked marked (suc low) n xs (omega (arith, e)))
 
 length_by : (b : Bool) (low : ℕ) (rest : List ℕ) → length (cond b (low ∷ rest) rest) ≡ one_if b + length rest
-length_by true low rest = omega arith
-length_by false low rest = omega arith
+length_by b low rest = grind arith
 
 -- there are as many as marked pieces
 pub length-marked : (marked : ℕ → Bool) (low : ℕ) (xs : List ℕ)
     → length (marked_from marked low xs) ≡ total_by (λ x. one_if (marked x)) xs
 length-marked marked low [] = refl
-length-marked marked low (x ∷ xs) =
-    length_by (marked x) low (marked_from marked (suc low) xs) ∙ ap (λ n. one_if (marked x) + n) (length-marked marked (suc low) xs)
+length-marked marked low (x ∷ xs) = grind (arith, length_by, one_if, length-marked marked (suc low) xs)
 
 -- marks that agree on each piece give the same places
 pub marked-same : (marked other : ℕ → Bool) (low : ℕ) (xs : List ℕ) → All (λ x. marked x ≡ other x) xs
@@ -45,8 +41,7 @@ pub marked-same : (marked other : ℕ → Bool) (low : ℕ) (xs : List ℕ) → 
 marked-same marked other low [] h = refl
 marked-same marked other low (x ∷ xs) h =
     let P : ℕ → Type 0 = λ x. marked x ≡ other x in
-    ap (λ b. cond b (low ∷ marked_from marked (suc low) xs) (marked_from marked (suc low) xs)) (All-head P x xs h)
-    ∙ ap (λ rest. cond (other x) (low ∷ rest) rest) (marked-same marked other (suc low) xs (All-tail P x xs h))
+    grind (arith, All-head, All-tail, marked-same marked other (suc low) xs (All-tail P x xs h))
 
 -- ---- the elements of a set
 

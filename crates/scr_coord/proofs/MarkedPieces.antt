@@ -1,7 +1,7 @@
 -- The places of marked pieces go along with turns.
 use Rattle.std.proofs.Common.{◌≡◌, ℕ, zero, suc, ◌+◌, ◌<◌, Bool, true, false, cond, List, [], ◌∷◌, length, slice_index, map, refl, sym, ap, ◌∙◌, arith}
 use Rattle.std.specs.Prelude.{All, ◌||◌}
-use Rattle.std.proofs.lemmas.Bool.{eq-eqb, ne_eqb}
+use Rattle.std.proofs.lemmas.Bool.{eq-eqb}
 use Rattle.std.proofs.lemmas.List.Elements.{All-head, All-tail, All-nil, All-cons}
 use Rattle.scr_combinatorics.specs.Lists.{numbers_from, pick}
 use Rattle.scr_combinatorics.specs.Permutations.{IsPermutation}
@@ -25,19 +25,14 @@ stands_in-first marked low x xs false e =
 
 stands_in-rest : (low y : ℕ) (rest : List ℕ) (b : Bool) → low < y
     → stands_in (cond b (low ∷ rest) rest) y ≡ stands_in rest y
-stands_in-rest low y rest true lt = ap (λ b. b || stands_in rest y) (ne_eqb low y (λ e. omega arith))
-stands_in-rest low y rest false lt = refl
+stands_in-rest low y rest b h0 = grind arith
 
 pub stands_in-marked : (marked : ℕ → Bool) (low k : ℕ) (xs : List ℕ) → k < length xs
     → stands_in (marked_from marked low xs) (low + k) ≡ marked (slice_index xs k)
 stands_in-marked marked low k [] lt = absurd (omega arith)
-stands_in-marked marked low zero (x ∷ xs) lt =
-    ap (stands_in (marked_from marked low (x ∷ xs))) (omega arith) ∙ stands_in-first marked low x xs (marked x) refl
+stands_in-marked marked low zero (x ∷ xs) lt = grind (arith, stands_in-first marked low x xs (marked x) refl)
 stands_in-marked marked low (suc k) (x ∷ xs) lt =
-    let on : low + suc k ≡ suc low + k = omega arith in
-    ap (stands_in (marked_from marked low (x ∷ xs))) on
-    ∙ stands_in-rest low (suc low + k) (marked_from marked (suc low) xs) (marked x) (omega arith)
-    ∙ stands_in-marked marked (suc low) k xs (omega arith)
+    grind (arith, stands_in-rest, stands_in-marked marked (suc low) k xs (omega arith))
 
 -- marks of picked pieces are marks of the places that they are picked from
 pub marked-map : (marked : ℕ → Bool) (f : ℕ → ℕ) (low : ℕ) (ks : List ℕ)
@@ -57,9 +52,7 @@ All-stand marked xs (k ∷ ks) below =
 -- After a turn marked pieces stand at the turned set of the places where they stood.
 pub marked-turned : (marked : ℕ → Bool) (xs : List ℕ) (r : Orbit) → All (λ k. k < length xs) r.pieces
     → marked_places marked (pick xs r.pieces) ≡ turned_set (marked_places marked xs) r
-marked-turned marked xs r below =
-    marked-map marked (λ k. slice_index xs k) 0 r.pieces
-    ∙ marked-same (λ k. marked (slice_index xs k)) (stands_in (marked_places marked xs)) 0 r.pieces (All-stand marked xs r.pieces below)
+marked-turned marked xs r below = grind (arith, marked-map, marked-same, All-stand)
 
 -- and are as many as before
 pub IsPlaceSet-marked : (n k : ℕ) (marked : ℕ → Bool) (xs : List ℕ) → IsPermutation n xs

@@ -1,5 +1,5 @@
 -- The steps of the loop over places that takes those of marked pieces.
-use Rattle.std.proofs.Common.{◌≡◌, ℕ, zero, suc, ◌+◌, ◌<◌, ◌≤◌, Bool, true, false, cond, List, [], ◌∷◌, ◌++◌, length, get_or, take, set, refl, sym, ap, ◌∙◌, arith, add-zero}
+use Rattle.std.proofs.Common.{◌≡◌, ℕ, zero, suc, ◌+◌, ◌<◌, ◌≤◌, Bool, true, false, cond, List, [], ◌∷◌, ◌++◌, length, get_or, take, set, sym, ap, ◌∙◌, arith, add-zero}
 use Rattle.std.proofs.lemmas.List.{take_more, take_more_set, length-take-le, length-append, append-nil, take_all}
 use Rattle.scr_combinatorics.specs.PlaceSets.{IsPlaceSetFrom, IsPlaceSet}
 use Rattle.scr_combinatorics.proofs.Counts.{one_if, total_by}
@@ -7,17 +7,12 @@ use Rattle.scr_coord.specs.Projections.{marked_from, marked_places}
 use Rattle.scr_coord.proofs.MarkedLaws.{length-marked}
 
 append_by : (b : Bool) (low : ℕ) (xs ys : List ℕ) → cond b (low ∷ (xs ++ ys)) (xs ++ ys) ≡ cond b (low ∷ xs) xs ++ ys
-append_by true low xs ys = refl
-append_by false low xs ys = refl
+append_by b low xs ys = grind arith
 
 pub marked-append : (marked : ℕ → Bool) (low : ℕ) (xs ys : List ℕ)
     → marked_from marked low (xs ++ ys) ≡ marked_from marked low xs ++ marked_from marked (low + length xs) ys
 marked-append marked low [] ys = ap (λ n. marked_from marked n ys) (sym (add-zero low))
-marked-append marked low (x ∷ xs) ys =
-    let on : suc low + length xs ≡ low + suc (length xs) = omega arith in
-    ap (λ rest. cond (marked x) (low ∷ rest) rest)
-    (marked-append marked (suc low) xs ys ∙ ap (λ n. marked_from marked (suc low) xs ++ marked_from marked n ys) on)
-    ∙ append_by (marked x) low (marked_from marked (suc low) xs) (marked_from marked (low + suc (length xs)) ys)
+marked-append marked low (x ∷ xs) ys = grind (arith, append_by, marked-append marked (suc low) xs ys)
 
 -- one more place
 pub marked-more : (marked : ℕ → Bool) (xs : List ℕ) (k : ℕ) → k < length xs
@@ -36,14 +31,7 @@ total_by-take f (x ∷ xs) (suc k) lt = omega (arith, total_by-take f xs k (omeg
 -- there is room for a place that is found
 pub marked-room : (marked : ℕ → Bool) (xs : List ℕ) (k : ℕ) → k < length xs → marked (get_or xs k 0) ≡ true
     → length (marked_places marked (take k xs)) < length (marked_places marked xs)
-marked-room marked xs k lt e =
-    omega (
-      arith,
-      length-marked marked 0 (take k xs),
-      length-marked marked 0 xs,
-      ap one_if e,
-      total_by-take (λ x. one_if (marked x)) xs k lt,
-    )
+marked-room marked xs k lt e = grind (arith, length-marked, one_if, total_by-take)
 
 -- What the loop keeps: the places so far stand at the front
 pub record FoundSoFar (marked : ℕ → Bool) (xs out : List ℕ) (found place : ℕ) : Type 0 where
@@ -61,29 +49,17 @@ pub found_more : (marked : ℕ → Bool) (xs out : List ℕ) (found place : ℕ)
     → place < length xs → length (marked_places marked xs) ≡ length out → marked (get_or xs place 0) ≡ true
     → FoundSoFar marked xs (set out found place) (found + 1) (place + 1)
 found_more marked xs out found place so_far lt fits e =
-    let more = marked-more marked xs place lt ∙ ap (λ b. marked_places marked (take place xs) ++ cond b (place ∷ []) []) e in
-    record {
-      front = take_more_set out found place (found_room marked xs out found place so_far lt fits e)
-          ∙ ap (λ ys. ys ++ place ∷ []) so_far.front ∙ sym more;
-      counted = omega (arith, so_far.counted, ap length more, length-append (marked_places marked (take place xs)) (place ∷ []));
-    }
+    grind (arith, marked-more, take_more_set, found_room, length-append)
 
 -- at any other nothing is
 pub found_none : (marked : ℕ → Bool) (xs out : List ℕ) (found place : ℕ) → FoundSoFar marked xs out found place
     → place < length xs → marked (get_or xs place 0) ≡ false → FoundSoFar marked xs out found (place + 1)
-found_none marked xs out found place so_far lt e =
-    let same =
-    marked-more marked xs place lt ∙ ap (λ b. marked_places marked (take place xs) ++ cond b (place ∷ []) []) e
-    ∙ append-nil (marked_places marked (take place xs)) in
-    record { front = so_far.front ∙ sym same; counted = so_far.counted ∙ sym (ap length same) }
+found_none marked xs out found place so_far lt e = grind (arith, marked-more, append-nil)
 
 -- at the end they are all that is written
 pub found_all : (marked : ℕ → Bool) (xs out : List ℕ) (found place : ℕ) → FoundSoFar marked xs out found place
     → length xs ≤ place → length (marked_places marked xs) ≡ length out → out ≡ marked_places marked xs
-found_all marked xs out found place so_far le e =
-    let whole = take_all place xs le in
-    let all : length out ≤ found = omega (arith, e, so_far.counted, ap (λ ys. length (marked_places marked ys)) whole) in
-    sym (take_all found out all) ∙ so_far.front ∙ ap (marked_places marked) whole
+found_all marked xs out found place so_far le e = grind (arith, take_all)
 
 -- a set has no more places than there are
 set_from_le : (low n : ℕ) (set : List ℕ) → low ≤ n → IsPlaceSetFrom low n set → low + length set ≤ n

@@ -1,5 +1,5 @@
 -- Projections: what the steps of their code say, and that they follow the turns of orbits.
-use Rattle.std.proofs.Common.{◌≡◌, ℕ, ◌<◌, Bool, true, false, cond, List, map, length, get_or, Option, Some, None, refl, sym, ap, ◌∙◌, subst, arith}
+use Rattle.std.proofs.Common.{◌≡◌, ℕ, ◌<◌, Bool, cond, List, map, length, get_or, Option, Some, None, refl, sym, ap, ◌∙◌, subst, arith}
 use Rattle.std.specs.Prelude.{All, nat_lt, slice_get}
 use Rattle.std.specs.Option.{option_map}
 use Rattle.std.proofs.lemmas.Bool.{eq-eqb, eqb-true, ltb-false}
@@ -31,10 +31,7 @@ pub after_read : {n : ℕ} (v : ListView) (turns : List (PlaceTurn n)) (p t q : 
     → t < length (map made_by turns) → seen ≡ v.list_at p
     → q ≡ v.number_of (v.turned seen (made_by (get_or turns t turn)))
     → Some q ≡ (projection v (map made_by turns)).after p t
-after_read v turns p t q turn seen lt e number =
-    ap Some (number ∙ ap (λ xs. v.number_of (v.turned xs (made_by (get_or turns t turn)))) e)
-    ∙ sym (ap (option_map (λ r. v.number_of (v.turned (v.list_at p) r)))
-    (turn-at turns (map made_by turns) t turn refl (omega (arith, length-map turns made_by))))
+after_read v turns p t q turn seen lt e number = grind (arith, turn-at, length-map)
 
 -- Turns that keep the sum of the digits move the pieces.
 pub AreTurns-places : {n : ℕ} (base : ℕ) (turns : List (PlaceTurn n))
@@ -52,16 +49,12 @@ module _ {S : Type 0} (v : ListView) (IsList : List ℕ → Type 0) (IsTurn : Or
   -- where a turn leads, if there is one
   step_by : (s : S) (o : Option Orbit) → IsValid s → ((r : Orbit) → o ≡ Some r → IsTurn r)
       → option_map (λ r. v.number_of (v.turned (v.list_at (v.number_of (list_of s))) r)) o ≡ option_map (λ s. v.number_of (list_of s)) (option_map (turned s) o)
-  step_by s None h turns = refl
-  step_by s (Some r) h turns =
-      ap (λ xs. Some (v.number_of (v.turned xs r))) (l.one_to_one.state_again (list_of s) (seen s h))
-      ∙ ap (λ xs. Some (v.number_of xs)) (sym (moves s r h (turns r refl)))
+  step_by s o h0 h1 = grind arith
 
   -- there is none past the last
   guarded : (f : Orbit → ℕ) (turns : List Orbit) (t : ℕ) (b : Bool) → nat_lt t (length turns) ≡ b
       → cond b (option_map f (slice_get turns t)) None ≡ option_map f (slice_get turns t)
-  guarded f turns t true e = refl
-  guarded f turns t false e = ap (option_map f) (sym (slice_get_past turns t (ltb-false t (length turns) e)))
+  guarded f turns t b h0 = grind (arith, slice_get_past, ltb-false)
 
   pub Follows-projection : (turns : List Orbit) → All IsTurn turns
       → Follows (record { IsValid = IsValid; after = λ s t. option_map (turned s) (slice_get turns t); IsGoal = λ s. list_of s ≡ v.goal })

@@ -1,5 +1,5 @@
 -- Laws of cubes that are joined, one and then another: what undoes a cube, and what words lead to.
-use Rattle.std.proofs.Common.{◌≡◌, IsTrue, List, Some, refl, sym, ap, ◌∙◌, lit≤}
+use Rattle.std.proofs.Common.{◌≡◌, IsTrue, List, Some, refl, ap, ◌∙◌, lit≤, arith}
 use Rattle.std.specs.Prelude.{All}
 use Rattle.std.specs.Option.{option_map}
 use Rattle.scr_combinatorics.specs.Play.{play}
@@ -27,13 +27,8 @@ pub IsInverse-parts : (s : CubeState) (corners edges : Orbit) → IsCube s
     → IsInverse cube_monoid IsCube s (record { corners = corners; edges = edges })
 unfolding solved_cube
 IsInverse-parts s corners edges own c e =
-    let valid : IsCube (record { corners = corners; edges = edges }) = record {
-      corners = IsZeroSumOrbit-inverse 8 3 s.corners corners own.corners c.valid c.before;
-      edges = IsZeroSumOrbit-inverse 12 2 s.edges edges own.edges e.valid e.before;
-      same_parity = parity-inverse_orbit 8 3 s.corners corners (IsOrbit-zero_sum 8 3 s.corners own.corners) c.valid c.before
-          ∙ own.same_parity
-          ∙ sym (parity-inverse_orbit 12 2 s.edges edges (IsOrbit-zero_sum 12 2 s.edges own.edges) e.valid e.before);
-    } in
+    let valid : IsCube (record { corners = corners; edges = edges }) =
+    grind (arith, IsZeroSumOrbit-inverse, parity-inverse_orbit, IsOrbit-zero_sum) in
     IsInverse-both cube_monoid IsCube cube_laws s (record { corners = corners; edges = edges }) own valid
     (same_cube _ _ c.after e.after) (same_cube _ _ c.before e.before)
 
@@ -51,11 +46,8 @@ words_joined v w h k =
     let tells = TellsTurns-powers cube_powers (permits C333) (tells_faces 1 (lit≤ tt)) lawful_cube in
     let first = played-turns tells solved_cube v cube_laws.solved h in
     let second = played-turns tells solved_cube w cube_laws.solved k in
-    record {
-      first = first.0;
-      second = second.0;
-      first_played = first.1;
-      second_played = second.1;
-      both_played = play-append (after_letter cube_powers) solved_cube first.0 v w first.1
-          ∙ play-then first.0 second.0 w (IsCube-played first.0 v first.1) second.1;
-    }
+    grind (
+      arith,
+      play-append (after_letter cube_powers) solved_cube first.0 v w first.1,
+      play-then first.0 second.0 w (IsCube-played first.0 v first.1) second.1,
+    )

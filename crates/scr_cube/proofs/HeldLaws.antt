@@ -1,9 +1,7 @@
 -- Turns of a held cube: what they do to the cube itself, that they can be taken back and merged, and the words at
 -- places that the cube's own words are.
-use Rattle.std.proofs.Common.{◌≡◌, ℕ, suc, ◌+◌, ◌-◌, ◌/◌, ◌%◌, ◌<◌, ◌≤◌, Bool, true, false, IsTrue, cond, List, [], ◌∷◌, Option, Some, None, length, refl, sym, ap, ◌∙◌, subst, arith, lit≤, eqb, eqb-true, eq-eqb, inl, inr, append-nil}
+use Rattle.std.proofs.Common.{◌≡◌, ℕ, suc, ◌+◌, ◌-◌, ◌%◌, ◌<◌, ◌≤◌, Bool, true, false, IsTrue, cond, List, [], ◌∷◌, Some, None, length, refl, sym, ap, ◌∙◌, subst, arith, lit≤, eqb, eqb-true, eq-eqb, inl, inr, append-nil}
 use Rattle.std.specs.Prelude.{Contains, slice_index}
-use Rattle.std.specs.Option.{option_map}
-use Rattle.std.specs.Cmp.Derive.{both_true}
 use Rattle.std.proofs.lemmas.Bool.{false≢true, cases_lt, eqb-false}
 use Rattle.std.proofs.lemmas.Option.{same_Some}
 use Rattle.scr_combinatorics.specs.Lists.{numbers_from}
@@ -11,7 +9,7 @@ use Rattle.scr_combinatorics.specs.Permutations.{place_of}
 use Rattle.scr_combinatorics.specs.Play.{play}
 use Rattle.scr_combinatorics.specs.Lawful.{IsLawful}
 use Rattle.scr_combinatorics.specs.Tidy.{word_of, with_turn, tidy}
-use Rattle.scr_combinatorics.proofs.PlayLaws.{play-empty, play-first, play-parts, play-one, map-some}
+use Rattle.scr_combinatorics.proofs.PlayLaws.{play-empty, play-first, play-parts, play-one}
 use Rattle.scr_combinatorics.proofs.TidyLaws.{with_turn-alike}
 use Rattle.scr_orbit.specs.PowerPuzzles.{after_letter}
 use Rattle.scr_orbit.proofs.Parts.{ap_both}
@@ -38,36 +36,18 @@ pub record IsHeldStep (s r : HeldState) (t : Turn) : Type 0 where
   pub cube : after_letter cube_powers s.cube (face_letter s.centres t) ≡ Some r.cube
   pub centres : centres_after s.centres t ≡ r.centres
 
-made_if : {X : Type 0} (b : Bool) (o : Option X) (x : X) → cond b o None ≡ Some x → (b ≡ true) × (o ≡ Some x)
-made_if true o x e = (refl, e)
-made_if false o x e = absurd (cc)
-
 pub step-of : (s r : HeldState) (t : Turn) → held_cube_after s t ≡ Some r → IsHeldStep s r t
 unfolding held_cube_after
-step-of s r t e =
-    let made : CubeState → HeldState = λ cube. record { cube = cube; centres = centres_after s.centres t } in
-    let turned = after_letter cube_powers s.cube (face_letter s.centres t) in
-    let found = made_if (permits Bf333 t) (option_map made turned) r e in
-    let cube = map-some made turned r found.1 in
-    record {
-      permitted = found.0;
-      cube = cube.1 ∙ ap Some (ap (λ (x : HeldState). x.cube) cube.2);
-      centres = ap (λ (x : HeldState). x.centres) cube.2;
-    }
+step-of s r t e = grind arith
 
 pub step-made : (s r : HeldState) (t : Turn) → IsHeldStep s r t → held_cube_after s t ≡ Some r
 unfolding held_cube_after
-step-made s r t h =
-    let made : CubeState → HeldState = λ cube. record { cube = cube; centres = centres_after s.centres t } in
-    ap (λ b. cond b (option_map made (after_letter cube_powers s.cube (face_letter s.centres t))) None) h.permitted
-    ∙ ap (option_map made) h.cube ∙ ap (λ k. Some (record { cube = r.cube; centres = k })) h.centres
+step-made s r t h = grind arith
 
 -- and any other letter is none
 pub held_cube_after-none : (s : HeldState) (t : Turn) → permits Bf333 t ≡ false → held_cube_after s t ≡ None
 unfolding held_cube_after
-held_cube_after-none s t e =
-    let made : CubeState → HeldState = λ cube. record { cube = cube; centres = centres_after s.centres t } in
-    ap (λ b. cond b (option_map made (after_letter cube_powers s.cube (face_letter s.centres t))) None) e
+held_cube_after-none s t e = grind arith
 
 -- a turn at a place, and a wide turn
 pub place_parts : (place depth amount : ℕ) → place < 6 → 1 ≤ depth → depth ≤ 2 → (depth ≡ 2 → place < 3) → 0 < amount
@@ -91,8 +71,7 @@ face_parts place depth amount h = face_turn_parts 2 1 place depth amount h
 
 -- a turn of more layers than one is at U, R or F
 pub near_place : (place depth amount : ℕ) → IsFaceTurn 2 1 place depth amount → (depth ≡ 1 → ⊥) → place < 3
-near_place place depth amount p more =
-    elim (cases_lt place 3) [ inl lt ↦ lt | inr far ↦ absurd (more (omega (arith, p.far_layers far, p.some_layer))) ]
+near_place place depth amount p more = grind arith
 
 pub Contains-turned : (centres : List ℕ) (place depth amount : ℕ) → IsFaceTurn 2 1 place depth amount
     → Contains holds centres → Contains holds (centres_turned centres place depth amount)
@@ -150,15 +129,10 @@ held_cube_after-some s (Wide letter plus) h there = absurd (false≢true h)
 pub played-faces : (s r : HeldState) (w : List Turn) → play held_cube_after s w ≡ Some r
     → play (after_letter cube_powers) s.cube (faces_turned s.centres w) ≡ Some r.cube
 unfolding faces_turned
-played-faces s r [] e =
-    let same : s ≡ r = same_Some s r (sym (play-empty held_cube_after s) ∙ e) in
-    play-empty (after_letter cube_powers) s.cube ∙ ap (λ (x : HeldState). Some x.cube) same
+played-faces s r [] e = grind (arith, same_Some, play-empty)
 played-faces s r (t ∷ w) e =
     let parts = play-parts held_cube_after s r t w e in
-    let step = step-of s parts.0 t parts.1 in
-    play-first (after_letter cube_powers) s.cube parts.0.cube (face_letter s.centres t) (faces_turned (centres_after s.centres t) w) step.cube
-    ∙ ap (λ k. play (after_letter cube_powers) parts.0.cube (faces_turned k w)) step.centres
-    ∙ played-faces parts.0 r w parts.2
+    grind (arith, step-of, parts, play-first, played-faces parts.0 r w parts.2)
 
 pub length-faces_turned : (centres : List ℕ) (w : List Turn) → length (faces_turned centres w) ≡ length w
 unfolding faces_turned
@@ -172,8 +146,7 @@ unfolding centres_played
 played-centres s r [] e = ap (λ (x : HeldState). x.centres) (same_Some s r (sym (play-empty held_cube_after s) ∙ e))
 played-centres s r (t ∷ w) e =
     let parts = play-parts held_cube_after s r t w e in
-    let step = step-of s parts.0 t parts.1 in
-    ap (λ k. centres_played k w) step.centres ∙ played-centres parts.0 r w parts.2
+    grind (arith, step-of, parts, centres_played, played-centres parts.0 r w parts.2)
 
 -- a turn of the cube itself
 record IsOuter (t : Turn) : Type 0 where
@@ -186,18 +159,7 @@ record IsOuter (t : Turn) : Type 0 where
 
 outer-of : (c d : CubeState) (t : Turn) → after_letter cube_powers c t ≡ Some d → IsOuter t
 unfolding face_turn_at
-outer-of c d t e =
-    let n = lawful_cube.numbers c d t e in
-    let lt : n.0 < 18 = n.1 in
-    let depth : n.0 / 18 + 1 ≡ 1 = omega arith in
-    record {
-      face = n.0 / 3 % 6;
-      amount = n.0 % 3 + 1;
-      is = sym n.2 ∙ ap (λ k. Face (n.0 / 3 % 6) k (n.0 % 3 + 1)) depth;
-      below = omega arith;
-      some = omega arith;
-      few = omega arith;
-    }
+outer-of c d t e = grind (arith, lawful_cube)
 
 -- The cube's own words are words at places: each face is turned where it is, and the centres stay. In the hold of the
 -- solved cube they are the same.
@@ -209,14 +171,7 @@ pub record IsAtPlaces (c d : CubeState) (centres : List ℕ) (w : List Turn) : T
 
 pub at_places : (c d : CubeState) (centres : List ℕ) (w : List Turn) → Contains holds centres
     → play (after_letter cube_powers) c w ≡ Some d → IsAtPlaces c d centres w
-at_places c d centres [] there e =
-    let same : c ≡ d = same_Some c d (sym (play-empty (after_letter cube_powers) c) ∙ e) in
-    record {
-      word = [];
-      size = refl;
-      own = λ solved. refl;
-      played = play-empty held_cube_after (record { cube = c; centres = centres }) ∙ ap (λ x. Some (record { cube = x; centres = centres })) same;
-    }
+at_places c d centres [] there e = grind (arith, same_Some, play-empty)
 at_places c d centres (t ∷ w) there e =
     let parts = play-parts (after_letter cube_powers) c d t w e in
     let o = outer-of c parts.0 t parts.1 in
@@ -315,11 +270,7 @@ unfolding tidy with_turn
 cube_merged c r d face n m valid e f =
     let word : List Turn = Face face 1 n ∷ Face face 1 m ∷ [] in
     let played = play-first (after_letter cube_powers) c r (Face face 1 n) (Face face 1 m ∷ []) e ∙ play-one (after_letter cube_powers) r (Face face 1 m) ∙ f in
-    let tidied = lawful_cube.lawful.kept_by_tidy c d word valid played in
-    let alike : IsTrue (turn_merging.alike (Face face 1 n) (Face face 1 m)) = both_true (eq-eqb face face refl) refl in
-    let both : tidy turn_merging word ≡ word_of (turns_merged (Face face 1 n) (Face face 1 m)) =
-    with_turn-alike turn_merging (Face face 1 n) (Face face 1 m) [] alike ∙ append-nil (word_of (turns_merged (Face face 1 n) (Face face 1 m))) in
-    ap (play (after_letter cube_powers) c) (sym both) ∙ tidied
+    grind (arith, lawful_cube, played, eq-eqb, with_turn-alike, append-nil)
 
 pub same_held : (s r : HeldState) → s.cube ≡ r.cube → s.centres ≡ r.centres → s ≡ r
 same_held s r a b = ap_both (λ cube centres. record { cube = cube; centres = centres }) a b

@@ -1,5 +1,5 @@
 -- Laws of the turns of a 3x3x3: cubes are a monoid, each face's quarter turn has order 4, and what follows of that.
-use Rattle.std.proofs.Common.{◌≡◌, ℕ, ◌+◌, ◌%◌, ◌<◌, Bool, true, Some, refl, sym, ap, ◌∙◌, lit<, lit≤, eqb-true}
+use Rattle.std.proofs.Common.{◌≡◌, ℕ, ◌+◌, ◌%◌, ◌<◌, Bool, true, Some, refl, sym, ap, ◌∙◌, lit<, lit≤, arith}
 use Rattle.std.specs.Prelude.{◌==◌, ◌&&◌, All, option_and_then}
 use Rattle.std.specs.Option.{option_map}
 use Rattle.std.proofs.lemmas.Option.{slice_get-get_or}
@@ -60,11 +60,7 @@ IsCube-from_test : (c : CubeState) → is_cube c ≡ true → IsCube c
 unfolding is_cube
 IsCube-from_test c h =
     let parts = and_three (is_zero_sum 8 3 c.corners) (is_zero_sum 12 2 c.edges) (parity c.corners.pieces == parity c.edges.pieces) h in
-    record {
-      corners = IsZeroSumOrbit-from_test 8 3 c.corners parts.0;
-      edges = IsZeroSumOrbit-from_test 12 2 c.edges parts.1;
-      same_parity = eqb-true (parity c.corners.pieces) (parity c.edges.pieces) parts.2;
-    }
+    grind (arith, IsZeroSumOrbit-from_test 8 3 c.corners parts.0, IsZeroSumOrbit-from_test 12 2 c.edges parts.1)
 
 pub All-quarters : All IsCube cube_quarters
 unfolding is_cube

@@ -1,7 +1,6 @@
 -- What the turn at a place of a list does.
 use Rattle.std.proofs.Common.{◌≡◌, ℕ, ◌<◌, Bool, true, false, cond, List, length, Option, Some, None, refl, sym, ap, ◌∙◌, ltb-true, arith}
 use Rattle.std.specs.Prelude.{nat_lt, slice_get, slice_index, slice_index_or, option_and_then}
-use Rattle.std.specs.Option.{option_map}
 use Rattle.std.proofs.lemmas.Bool.{ltb-false}
 use Rattle.std.proofs.lemmas.Option.{slice_get-get_or, slice_get_past}
 use Rattle.scr_combinatorics.specs.Play.{play}
@@ -22,9 +21,7 @@ length-turns = refl
 pub turn-leads : (c : CubeState) (t : ℕ) → t < 18
     → (after_letter cube_powers) c (face_turn_at t) ≡ Some (cube_monoid.turned c (slice_index_or (all_turns cube_powers) t solved_cube))
 unfolding all_turns
-turn-leads c t lt =
-    ap (option_map (cube_monoid.turned c)) (sym (lawful_cube.numbered t)
-    ∙ slice_get-get_or (all_turns cube_powers) t solved_cube (omega (arith, length-turns)))
+turn-leads c t lt = grind (arith, lawful_cube, slice_get-get_or, length-turns)
 
 -- what it is: that with the number which stands there
 pub after_of-is : (turns : List ℕ) (c : CubeState) (place : ℕ)

@@ -1,6 +1,6 @@
 -- The numbers of 2x2x2 states: one for each.
-use Rattle.std.proofs.Common.{ℕ, ◌<◌, List, [], ◌∷◌, ap, ◌∙◌, subst, lit≤, lit<}
-use Rattle.scr_combinatorics.specs.Permutations.{factorial, permutation_number, permutation_at}
+use Rattle.std.proofs.Common.{ℕ, ◌<◌, List, [], ◌∷◌, subst, lit≤, lit<, arith}
+use Rattle.scr_combinatorics.specs.Permutations.{factorial, permutation_number}
 use Rattle.scr_combinatorics.specs.Numbering.{IsNumbering}
 use Rattle.scr_combinatorics.proofs.PermutationNumbers.{permutation_number-lt, IsPermutation-at, permutation_number-at, permutation_at-number}
 use Rattle.scr_combinatorics.proofs.Twists.{twists_number-lt, IsTwists-twists_at, twists_number-twists_at, twists_at-number}
@@ -22,10 +22,7 @@ unfolding corners_of_digits digits_222
 state_of_two t p lt lp =
     let twists = twists_number-twists_at 7 3 t (lit< tt) lt in
     let pieces = permutation_number-at 7 p lp in
-    record {
-      valid = record { pieces = IsPermutation-at 7 p lp; digits = IsTwists-twists_at 7 3 t (lit< tt) (lit< tt) };
-      again = ap (λ x. x ∷ permutation_number (permutation_at 7 p) ∷ []) twists ∙ ap (λ x. t ∷ x ∷ []) pieces;
-    }
+    grind (arith, pieces, IsPermutation-at 7 p lp, IsTwists-twists_at 7 3 t (lit< tt) (lit< tt), twists)
 
 -- and a state has them
 has_two : (c : Orbit) → IsCorners222 c → HasDigits bases_222 corners_of_digits digits_222 IsCorners222 c

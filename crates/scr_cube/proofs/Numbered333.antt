@@ -1,8 +1,7 @@
 -- The numbers of cubes: one for each.
-use Rattle.std.proofs.Common.{◌≡◌, ℕ, ◌/◌, ◌<◌, List, [], ◌∷◌, sym, ap, ◌∙◌, subst, lit≤, lit<}
+use Rattle.std.proofs.Common.{◌≡◌, ℕ, ◌<◌, List, [], ◌∷◌, subst, lit≤, lit<, arith}
 use Rattle.std.proofs.lemmas.Nat.{mod_below}
-use Rattle.scr_combinatorics.specs.Permutations.{parity, factorial, permutation_number, permutation_at, half_at}
-use Rattle.scr_combinatorics.specs.Twists.{twists_number, twists_at}
+use Rattle.scr_combinatorics.specs.Permutations.{parity, factorial, permutation_number, permutation_at}
 use Rattle.scr_combinatorics.specs.Digits.{AreDigits}
 use Rattle.scr_combinatorics.specs.Numbering.{IsNumbering}
 use Rattle.scr_combinatorics.proofs.PermutationNumbers.{permutation_number-lt, IsPermutation-at, permutation_number-at, permutation_at-number}
@@ -23,22 +22,16 @@ Gives = GivesState cube_bases cube_of_digits cube_digits IsCube
 cube_of_four : (f t p e : ℕ) → f < 2048 → t < 2187 → p < 40320 → e < 239500800 → Gives (f ∷ t ∷ p ∷ e ∷ [])
 unfolding cube_of_digits cube_digits
 cube_of_four f t p e lf lt lp le =
-    let edges : List ℕ = half_at 12 (parity (permutation_at 8 p)) e in
-    let half = IsHalf-half_at 12 (parity (permutation_at 8 p)) e le (mod_below _ 2 (lit< tt)) in
-    let flips = twists_number-twists_at 12 2 f (lit< tt) lf in
-    let twists = twists_number-twists_at 8 3 t (lit< tt) lt in
-    let pieces = permutation_number-at 8 p lp in
-    record {
-      valid = record {
-        corners = record { pieces = IsPermutation-at 8 p lp; digits = IsTwists-twists_at 8 3 t (lit< tt) (lit< tt) };
-        edges = record { pieces = half.permutation; digits = IsTwists-twists_at 12 2 f (lit< tt) (lit< tt) };
-        same_parity = sym half.same_parity;
-      };
-      again = ap (λ x. x ∷ twists_number 3 (twists_at 8 3 t) ∷ permutation_number (permutation_at 8 p) ∷ permutation_number edges / 2 ∷ []) flips
-          ∙ ap (λ x. f ∷ x ∷ permutation_number (permutation_at 8 p) ∷ permutation_number edges / 2 ∷ []) twists
-          ∙ ap (λ x. f ∷ t ∷ x ∷ permutation_number edges / 2 ∷ []) pieces
-          ∙ ap (λ x. f ∷ t ∷ p ∷ x ∷ []) half.number;
-    }
+    grind (
+      arith,
+      IsHalf-half_at 12 (parity (permutation_at 8 p)) e le (mod_below _ 2 (lit< tt)),
+      twists_number-twists_at 12 2 f (lit< tt) lf,
+      twists_number-twists_at 8 3 t (lit< tt) lt,
+      permutation_number-at 8 p lp,
+      IsPermutation-at 8 p lp,
+      IsTwists-twists_at 8 3 t (lit< tt) (lit< tt),
+      IsTwists-twists_at 12 2 f (lit< tt) (lit< tt),
+    )
 
 -- the four numbers of a cube are below their counts
 pub AreDigits-cube : (c : CubeState) → IsCube c → AreDigits cube_bases (cube_digits c)
@@ -57,17 +50,7 @@ AreDigits-cube c h = (
 -- and tell it
 cube_of_digits-digits : (c : CubeState) → IsCube c → cube_of_digits (cube_digits c) ≡ c
 unfolding cube_digits cube_of_digits
-cube_of_digits-digits c h =
-    let flips = twists_at-number 12 2 c.edges.digits (lit< tt) (lit< tt) h.edges.digits in
-    let twists = twists_at-number 8 3 c.corners.digits (lit< tt) (lit< tt) h.corners.digits in
-    let corners = permutation_at-number 8 c.corners.pieces h.corners.pieces in
-    let edges : half_at 12 (parity (permutation_at 8 (permutation_number c.corners.pieces))) (permutation_number c.edges.pieces / 2) ≡ c.edges.pieces =
-    ap (λ ps. half_at 12 (parity ps) (permutation_number c.edges.pieces / 2)) corners
-    ∙ ap (λ odd. half_at 12 odd (permutation_number c.edges.pieces / 2)) h.same_parity
-    ∙ half_at-number 12 c.edges.pieces (lit< tt) h.edges.pieces in
-    ap (λ o. record { corners = o; edges = record { pieces = half_at 12 (parity (permutation_at 8 (permutation_number c.corners.pieces))) (permutation_number c.edges.pieces / 2); digits = twists_at 12 2 (twists_number 2 c.edges.digits) } })
-    (same_orbit _ c.corners corners twists)
-    ∙ ap (λ o. record { corners = c.corners; edges = o }) (same_orbit _ c.edges edges flips)
+cube_of_digits-digits c h = grind (arith, twists_at-number, permutation_at-number, half_at-number, same_orbit)
 
 -- cubes are numbered by the numbers below the count, one for each
 pub cube_numbering : IsNumbering cube_numbered

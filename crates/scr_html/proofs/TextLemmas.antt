@@ -2,13 +2,12 @@
 use Rattle.std.proofs.Common.{◌≡◌, ℕ, suc, zero, ◌+◌, ◌-◌, ◌<◌, ◌≤◌, true, false, pos, negsuc, List, [], ◌∷◌, ◌++◌, Some, refl, arith, get_or, subst, length}
 use Rattle.std.specs.Prelude.{codes, decimal, slice_get, if◌then◌else◌, ◌==◌, nat_le, Bool, not}
 use Rattle.std.specs.Fmt.{digits}
-use Rattle.std.specs.List.{list_any, list_all, slice_index_or, position_or_len, prefix_len, before_first, after_first}
+use Rattle.std.specs.List.{list_any, list_all, slice_index_or, position_or_len, prefix_len, before_first}
 use Rattle.std.proofs.lemmas.Bool.Decides.{nat_tests}
 use Rattle.std.proofs.lemmas.Bool.{or_parts, and_parts, not-true}
 use Rattle.std.proofs.lemmas.List.Elements.{All-weaker}
 use Rattle.std.proofs.lemmas.List.Folds.{list_any_none}
 use Rattle.std.proofs.lemmas.List.Sums.{fails_before_first}
-use Rattle.std.proofs.lemmas.List.{length-drop}
 use Rattle.scr_notation.specs.declared.event.Event.{Event}
 use Rattle.scr_notation.specs.declared.event.Event.TheVariants.{C222}
 use Rattle.scr_notation.specs.declared.turn.Turn.{Turn}
@@ -179,9 +178,6 @@ before_line_feed (b ∷ text) = before_cases b (b == 10) text refl (before_line_
 
 pub no_line_feed : (text : List ℕ) → position_or_len (λ b. b == 10) text ≡ length text → HasNoLineFeed text
 no_line_feed text none = list_any_none is_line_feed text (λ k d h. fails_before_first is_line_feed text k d (omega arith))
-
-pub rest_shorter : (text : List ℕ) → position_or_len (λ b. b == 10) text < length text → length (after_first (λ b. b == 10) text) < length text
-rest_shorter text some = omega (arith, length-drop (position_or_len (λ b. b == 10) text + 1) text)
 
 -- ---- styles
 

@@ -23,10 +23,6 @@ label-2 event = each_alike (λ e. slice_get (labels_of e) 2) (λ e. Some (codes 
 abbrev own_label : ℕ → List ℕ → Event → Option (List ℕ)
 own_label place other event = if nat_lt place (per_group_of event) then slice_get (labels_of event) place else Some other
 
-at_own_label : (place : ℕ) (label : List ℕ) (event : Event) → place < per_group_of event
-    → own_label place label event ≡ Some label → slice_get (labels_of event) place ≡ Some label
-at_own_label place label event more is = grind arith
-
 pub label-3 : (event : Event) → 3 < per_group_of event → slice_get (labels_of event) 3 ≡ Some (codes "4.")
 unfolding digits
 label-3 event more = grind arith

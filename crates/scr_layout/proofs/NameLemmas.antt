@@ -137,9 +137,6 @@ cut_off most name shown cut new within utf8 shown_is is fit_is cut_is new_is =
 plain_letter : (letter : ℕ) → is_blank letter ≡ false → IsNoControl letter
 plain_letter letter h = (grind (arith, nat_tests), λ e. false≢true (sym h ∙ ap is_blank e))
 
-space-plain : (b : Bool) → All IsNoControl (if b then 32 ∷ [] else [])
-space-plain b = grind arith
-
 gap-plain : (rest : List ℕ) → All IsNoControl (gap rest)
 gap-plain rest = grind arith
 

@@ -1,5 +1,5 @@
 -- A page goes on by nothing, by one token, by some and then more.
-use Rattle.std.proofs.Common.{◌≡◌, ℕ, List, [], ◌∷◌, ◌++◌, refl, sym, ◌∙◌, append_assoc, arith, rules}
+use Rattle.std.proofs.Common.{◌≡◌, ℕ, List, [], ◌∷◌, ◌++◌, ◌∙◌, append_assoc, arith, rules}
 use Rattle.std.specs.Prelude.{Option, option_to_list}
 use Rattle.std.specs.List.{cons_option}
 use Rattle.std.proofs.lemmas.List.{map-append, append-nil}
@@ -22,10 +22,6 @@ one_mark mark = grind arith
 
 marks-one : (token : Token) → marks (token ∷ []) ≡ option_to_list (mark_of token)
 marks-one token = one_mark (mark_of token)
-
--- nothing is added
-pub adds_nothing : (page : List ℕ) → Adds page page []
-adds_nothing page = record { tokens = []; valid = tt; text = sym (append-nil page); tells = refl }
 
 -- one token
 pub adds_token : (before after : List ℕ) (token : Token) → IsToken token → after ≡ before ++ text_of_tokens (token ∷ [])

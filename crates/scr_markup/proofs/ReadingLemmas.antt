@@ -1,7 +1,7 @@
 -- A text has at most one list of tokens: each piece ends at a byte that it can't have.
 use Rattle.std.proofs.lemmas.Grind.{common_steps}
-use Rattle.std.proofs.Common.{◌≡◌, ℕ, Bool, true, false, eqb, List, [], ◌∷◌, ◌++◌, drop, get_or, refl, sym, ap, ◌∙◌, arith, append_assoc}
-use Rattle.std.specs.Prelude.{not, ◌||◌, ◌==◌, codes, if◌then◌else◌}
+use Rattle.std.proofs.Common.{◌≡◌, ℕ, Bool, true, false, List, [], ◌∷◌, ◌++◌, refl, sym, ap, ◌∙◌, arith, append_assoc}
+use Rattle.std.specs.Prelude.{not, ◌||◌, ◌==◌, codes}
 use Rattle.std.specs.List.{list_any, list_all}
 use Rattle.std.proofs.lemmas.Bool.Decides.{nat_tests}
 use Rattle.std.proofs.lemmas.Bool.{and_parts, or_parts}
@@ -30,27 +30,6 @@ ends_once stops (x ∷ xs) (y ∷ ys) c d r s hx hy hc hd e =
     (cc, rest.1, rest.2)
 
 -- ---- escaped texts
-
--- the byte that an escaped text begins with, and what is left of the text
-first_byte : List ℕ → ℕ × List ℕ
-first_byte [] = (0, [])
-first_byte (c ∷ t) =
-    if c == 38 then
-    (if get_or t 0 0 == 97 then (38, drop 4 t)
-    else if get_or t 0 0 == 108 then (60, drop 3 t)
-    else if get_or t 0 0 == 103 then (62, drop 3 t)
-    else (34, drop 5 t))
-    else (c, t)
-
--- what holds of the four names, and of a byte that has none, holds of each byte as it is escaped
-by_names : (P : ℕ → List ℕ → Type 0) → P 38 (codes "&amp;") → P 60 (codes "&lt;") → P 62 (codes "&gt;") → P 34 (codes "&quot;")
-    → ((b : ℕ) → eqb b 38 ≡ false → eqb b 60 ≡ false → eqb b 34 ≡ false → P b (b ∷ []))
-    → (b : ℕ) → P b (escaped_byte b)
-by_names P ampersand less greater quote plain b = grind arith
-
-first_byte-escaped : (b : ℕ) (r : List ℕ) → first_byte (escaped_byte b ++ r) ≡ (b, r)
-unfolding first_byte
-first_byte-escaped b r = grind arith
 
 byte_once : (b c : ℕ) (r s : List ℕ) → escaped_byte b ++ r ≡ escaped_byte c ++ s → (b ≡ c) × (r ≡ s)
 byte_once b c r s e = grind arith
@@ -161,9 +140,6 @@ tails c d r s e = cc
 
 list_of_two : (a b : Attribute) (xs ys : List Attribute) → a.key ≡ b.key → a.value ≡ b.value → xs ≡ ys → a ∷ xs ≡ b ∷ ys
 list_of_two a b xs ys k v more = grind arith
-
-apart_heads : (r s : List ℕ) → 62 ∷ r ≡ 32 ∷ s → ⊥
-apart_heads r s e = cc
 
 attributes_once : (xs ys : List Attribute) (r s : List ℕ) → AreAttributes xs → AreAttributes ys
     → after_name xs r ≡ after_name ys s → (xs ≡ ys) × (r ≡ s)

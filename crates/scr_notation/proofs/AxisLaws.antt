@@ -93,25 +93,9 @@ axis_powers = record {
 
 -- ---- by their numbers
 
-axis_turn_at-low : (n : ℕ) → n < 8 → axis_turn_at n ≡ Axis (n / 2) (n % 2 + 1)
-unfolding axis_turn_at
-axis_turn_at-low n l = cond-true (ltb n 8) _ _ (lt-ltb n 8 l)
-
 axis_turn_at-high : (n : ℕ) → 8 ≤ n → axis_turn_at n ≡ Tip ((n - 8) / 2) (n % 2 + 1)
 unfolding axis_turn_at
 axis_turn_at-high n l = cond-false (ltb n 8) _ _ (le-ltb n 8 l)
-
--- the first sixteen turns are of axes and tips
-pub thirds_of-numbered : (n : ℕ) → n < 16
-    → thirds_of (axis_turn_at n) ≡ Some (record { generator = n / 2; exponent = n % 2 + 1 })
-thirds_of-numbered n l =
-    ⊎_elim
-    (λ low. ap thirds_of (axis_turn_at-low n low) ∙ thirds_of-axis (n / 2) (n % 2 + 1) (omega arith) (omega arith) (omega arith))
-    (λ high.
-    let there : 4 + (n - 8) / 2 ≡ n / 2 = omega arith in
-    ap thirds_of (axis_turn_at-high n high) ∙ thirds_of-tip ((n - 8) / 2) (n % 2 + 1) (omega arith) (omega arith) (omega arith)
-    ∙ ap (λ g. Some (record { generator = g; exponent = n % 2 + 1 })) there)
-    (cases_lt n 8)
 
 -- and the others are no turns of these puzzles
 pub thirds_of-past : (n : ℕ) → 16 ≤ n → thirds_of (axis_turn_at n) ≡ None

@@ -71,10 +71,6 @@ print-more s i d text new w l e h =
     ∙ sym (text_of-more s.event (take i s.turns) (get_or s.turns i d) (All-take P i s.turns w.permitted))
     ∙ ap text_of (sym (take_more s.turns i d l))
 
-pub print-permitted : (s : Written) (i : ℕ) (d : Turn) → IsWritten s → i < length s.turns
-    → IsTrue (permits s.event (get_or s.turns i d))
-print-permitted s i d w l = All-get_or (λ u. IsTrue (permits s.event u)) s.turns i d l w.permitted
-
 -- a word that is read is short
 pub read-short : (e : Event) (t : Turn) (word : List ℕ) → IsTrue (permits e t) → spelling t ≡ word → length word ≤ 7
 read-short e t word p h = let w = IsWord-spelling e t p in omega (arith, w.short, ap length h)

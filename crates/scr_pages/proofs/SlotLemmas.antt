@@ -121,9 +121,6 @@ next : (done : List GroupOf) (group : GroupOf) → slots_of (done ++ group ∷ [
 next done group =
     flat_map-append slots_of_group done (group ∷ []) ∙ ap (λ s. slots_of done ++ s) (append-nil (slots_of_group group))
 
-pub passes-none : (Is : Slot → Type 0) (all : List GroupOf) → Passes Is all all
-passes-none Is all = record { done = []; all_is = refl; none = All-nil (λ slot. Is slot → ⊥) }
-
 pub passes-one : (Is : Slot → Type 0) (all left after : List GroupOf) (group : GroupOf) → Passes Is all left → left ≡ group ∷ after
     → NoneIs Is (slots_of_group group) → Passes Is all after
 passes-one Is all left after group passes given none = record {
@@ -132,10 +129,6 @@ passes-one Is all left after group passes given none = record {
   none = subst (NoneIs Is) (sym (next passes.done group))
       (All-append (λ slot. Is slot → ⊥) (slots_of passes.done) (slots_of_group group) passes.none none);
 }
-
-pub passes-all : (Is : Slot → Type 0) (all left : List GroupOf) → Passes Is all left → left ≡ [] → NoneIs Is (slots_of all)
-passes-all Is all left passes end =
-    subst (λ groups. NoneIs Is (slots_of groups)) (sym (passes.all_is ∙ ap (λ l. passes.done ++ l) end ∙ append-nil passes.done)) passes.none
 
 pub passes-first : (Is : Slot → Type 0) (all left after : List GroupOf) (group : GroupOf) (line : ℕ) → Passes Is all left
     → left ≡ group ∷ after → IsFirst Is (slots_of_group group) line → IsFirst Is (slots_of all) line
@@ -149,8 +142,3 @@ pub lines-left : (left after : List GroupOf) (group : GroupOf) → left ≡ grou
     → All (λ (g : GroupOf). g.line ≤ 65536) after
 lines-left left after group given lines =
     All-tail (λ (g : GroupOf). g.line ≤ 65536) group after (subst (λ (l : List GroupOf). All (λ (g : GroupOf). g.line ≤ 65536) l) given lines)
-
-pub line-first : (left after : List GroupOf) (group : GroupOf) → left ≡ group ∷ after → All (λ (g : GroupOf). g.line ≤ 65536) left
-    → group.line ≤ 65536
-line-first left after group given lines =
-    All-head (λ (g : GroupOf). g.line ≤ 65536) group after (subst (λ (l : List GroupOf). All (λ (g : GroupOf). g.line ≤ 65536) l) given lines)

@@ -1,5 +1,5 @@
 -- The steps of the loops over digits in one base, as facts about lists.
-use Rattle.std.proofs.Common.{◌≡◌, ℕ, suc, ◌+◌, ◌-◌, ◌*◌, ◌/◌, ◌%◌, ◌^◌, ◌<◌, ◌≤◌, List, [], ◌∷◌, ◌++◌, length, take, drop, replicate, set, slice_index, sym, ap, ◌∙◌, arith}
+use Rattle.std.proofs.Common.{◌≡◌, ℕ, suc, ◌+◌, ◌-◌, ◌*◌, ◌/◌, ◌%◌, ◌^◌, ◌<◌, ◌≤◌, List, ◌++◌, length, take, drop, replicate, set, slice_index, sym, ap, ◌∙◌, arith}
 use Rattle.std.proofs.lemmas.List.{length-set, length-replicate, get_or-replicate, take_all, take_more_set, append_assoc, append-nil}
 use Rattle.std.proofs.Math.Nat.{pow-le-pow_left, pow-le-pow_right, mod-add-mod}
 use Rattle.scr_combinatorics.specs.Lists.{total}
@@ -49,10 +49,7 @@ module _ (base last place rest sum : ℕ) (out : List ℕ) (lt : place < last) (
   written_more =
       let n : ℕ = last - (place + 1) in
       let e : suc n ≡ last - place = omega arith in
-      let later : List ℕ = mixed_digits (replicate n base) (rest / base) in
-      ap (λ zs. zs ++ later) (take_more_set out place (rest % base) room)
-      ∙ append_assoc (take place out) (rest % base ∷ []) later
-      ∙ ap (λ z. take place out ++ mixed_digits (replicate z base) rest) e
+      grind (arith, take_more_set, append_assoc)
 
   pub summed_more : sum ≡ total (take place out) % base
       → (sum + rest % base) % base ≡ total (take (place + 1) (set out place (rest % base))) % base
@@ -70,11 +67,7 @@ pub ended : (base number sum n last : ℕ) (out : List ℕ) → last ≡ n - 1 �
     → set out last ((base - sum) % base) ≡ twists_at n base number
 unfolding with_sum_fixed twists_at
 ended base number sum n last out back size written summed =
-    let d : ℕ = (base - sum) % base in
-    let ds : List ℕ = mixed_digits (replicate last base) number in
-    let fixed : d ≡ (base - total ds % base) % base = ap (λ z. (base - z) % base) (summed ∙ ap (λ zs. total zs % base) written) in
-    sym (take_all (last + 1) (set out last d) (omega (arith, length-set out last d, size)))
-    ∙ take_more_set out last d (omega (arith, size))
-    ∙ ap (λ zs. zs ++ d ∷ []) written
-    ∙ ap (λ z. ds ++ z ∷ []) fixed
-    ∙ ap (λ m. with_sum_fixed base (mixed_digits (replicate m base) number)) back
+    cc (
+      take_all (last + 1) (set out last ((base - sum) % base)) (omega (arith, length-set out last ((base - sum) % base), size)),
+      take_more_set out last ((base - sum) % base) (omega (arith, size)),
+    )

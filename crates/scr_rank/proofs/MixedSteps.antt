@@ -1,5 +1,5 @@
 -- The steps of the loops over digits and their bases, as facts about lists.
-use Rattle.std.proofs.Common.{◌≡◌, ℕ, zero, suc, ◌+◌, ◌-◌, ◌*◌, ◌<◌, ◌≤◌, List, [], ◌∷◌, All, length, drop, slice_index, refl, ap, ◌∙◌, sym, arith}
+use Rattle.std.proofs.Common.{◌≡◌, ℕ, zero, suc, ◌+◌, ◌-◌, ◌*◌, ◌<◌, ◌≤◌, List, [], ◌∷◌, All, length, drop, slice_index, refl, ap, arith}
 use Rattle.std.proofs.lemmas.List.{at_drop_more, drop_more}
 use Rattle.std.proofs.lemmas.List.Elements.{All-head, All-tail}
 use Rattle.std.proofs.Math.Nat.{mul_comm, mul-le-mul_right}
@@ -49,9 +49,7 @@ product_more bases place count pos le e =
     let q : ℕ = place - 1 in
     let back : q + 1 ≡ place = omega arith in
     let b : ℕ = slice_index bases q in
-    ap (λ z. z * b) (e ∙ ap (λ z. product (drop z bases)) (sym back))
-    ∙ mul_comm (product (drop (q + 1) bases)) b
-    ∙ sym (at_drop_more product bases q 0 (omega arith))
+    cc (mul_comm (product (drop (q + 1) bases)) b, at_drop_more product bases q 0 (omega arith))
 
 pub number_more : (bases ds : List ℕ) (place number : ℕ) → length bases ≤ length ds → 0 < place → place ≤ length bases
     → number ≡ mixed_number (drop place bases) (drop place ds)

@@ -1,7 +1,7 @@
 -- The steps of the loops over pairings, as facts about lists.
-use Rattle.std.proofs.Common.{◌≡◌, ℕ, zero, suc, ◌+◌, ◌-◌, ◌*◌, ◌/◌, ◌%◌, ◌<◌, ◌≤◌, List, ◌∷◌, length, take, slice_index, sym, ap, ◌∙◌, subst, arith}
+use Rattle.std.proofs.Common.{◌≡◌, ℕ, suc, ◌+◌, ◌-◌, ◌*◌, ◌/◌, ◌%◌, ◌<◌, ◌≤◌, List, ◌∷◌, length, take, slice_index, sym, ap, ◌∙◌, subst, arith}
 use Rattle.std.proofs.lemmas.Nat.{mod_below}
-use Rattle.std.proofs.Math.Nat.{mul_comm, mul-le-mul_left, div-div-eq-div-mul}
+use Rattle.std.proofs.Math.Nat.{mul-le-mul_left, div-div-eq-div-mul}
 use Rattle.std.proofs.lemmas.List.{take_all, ext_get_or, length-take-le, get_or-take}
 use Rattle.scr_combinatorics.specs.Pairings.{IsPairing, other_place, place_among_others, with_first_pair, without_first_pair, pairing_count, pairing_number, pairing_at}
 use Rattle.scr_combinatorics.proofs.Pairings.{other_place-lt, by_places, length-with_first_pair, with_first_pair-partner, with_first_pair-other, length-without, without-at, pairing_count-pos, pairing_first, pairing_number-first, pairing_number-lt, IsPairing-at}
@@ -72,29 +72,11 @@ pub unranked_more : (pairs r left choices : ℕ) (partners next : List ℕ) → 
     → UnrankedPairs (pairs + 1) r (left / choices) next
 unfolding pairing_at
 unranked_more pairs r left choices partners next size e u is =
-    let count : ℕ = pairing_count pairs in
-    let odd : ℕ = suc (2 * pairs) in
-    let same : choices ≡ odd = omega arith in
-    let more : pairs + 1 ≡ suc pairs = omega arith in
-    let whole : pairing_count (suc pairs) ≡ odd * count = ap (λ n. n * count) (omega arith) in
-    let parts = first_digit r (2 * pairs) count (pairing_count-pos pairs) in
-    let digit : left % choices ≡ r % (odd * count) / count = ap (λ n. n % choices) u.left_is ∙ ap (λ n. r / count % n) same ∙ sym parts.0 in
-    let rest : take (2 * pairs) partners ≡ pairing_at pairs (r % (odd * count) % count) = u.list ∙ ap (pairing_at pairs) (sym parts.1) in
-    subst (λ n. UnrankedPairs n r (left / choices) next) (sym more) (record {
-      size = size;
-      list = ap (λ n. take n next) {x = 2 * suc pairs} {y = 2 * pairs + 2} (omega arith)
-          ∙ is
-          ∙ ap (λ x. with_first_pair x (take (2 * pairs) partners)) digit
-          ∙ ap (with_first_pair (r % (odd * count) / count)) rest
-          ∙ ap (λ n. pairing_at (suc pairs) (r % n)) (sym whole);
-      left_is = ap (λ n. n / choices) u.left_is
-          ∙ ap (λ n. r / count / n) same
-          ∙ div-div-eq-div-mul r count odd
-          ∙ ap (λ n. r / n) (mul_comm count odd ∙ sym whole);
-    })
-
-pub unranked_first_choice : (pairs left choices : ℕ) → choices ≡ 2 * pairs + 1 → left % choices ≤ 2 * pairs
-unranked_first_choice pairs left choices e = omega arith
+    grind (
+      arith,
+      first_digit r (2 * pairs) (pairing_count pairs) (pairing_count-pos pairs),
+      div-div-eq-div-mul r (pairing_count pairs) (suc (2 * pairs)),
+    )
 
 pub unranked_end : (pairs r left : ℕ) (partners : List ℕ) → r < 105 → pairs ≡ 4 → UnrankedPairs pairs r left partners
     → partners ≡ pairing_at 4 r
@@ -109,13 +91,7 @@ pub record RankedPairs (pairs number : ℕ) (rest partners : List ℕ) : Type 0 
   pub counted : number * pairing_count pairs + pairing_number pairs (take (2 * pairs) rest) ≡ pairing_number 4 partners
 
 pub ranked_start : (partners : List ℕ) → IsPairing 8 partners → RankedPairs 4 0 partners partners
-ranked_start partners h =
-    let whole : take 8 partners ≡ partners = take_all 8 partners (omega (arith, h.size)) in
-    record {
-      size = h.size;
-      valid = subst (IsPairing 8) (sym whole) h;
-      counted = omega (arith, ap (pairing_number 4) whole);
-    }
+ranked_start partners h = grind (arith, take_all 8 partners (omega (arith, h.size)))
 
 -- one pair less, with the partner of the first place as the next choice
 pub record RankStep (pairs number : ℕ) (rest partners : List ℕ) : Type 0 where
@@ -129,31 +105,15 @@ pub rank_step : (before pairs number : ℕ) (rest partners : List ℕ) → befor
     → RankedPairs before number rest partners → RankStep pairs number rest partners
 rank_step before pairs number rest partners e h was =
     let r : RankedPairs (suc pairs) number rest partners = subst (λ n. RankedPairs n number rest partners) e was in
-    let f = pairing_first pairs (take (2 * suc pairs) rest) r.valid in
-    let p : ℕ = f.partner in
-    let count : ℕ = pairing_count pairs in
-    let less : List ℕ = without_first_pair p f.others in
-    let two : 2 * pairs + 2 ≡ 2 * suc pairs = omega arith in
-    let first : slice_index rest 0 ≡ suc p =
-    sym (get_or-take (2 * suc pairs) rest 0 0 (omega arith)) ∙ ap (λ ys. slice_index ys 0) f.is in
-    let digit : p ≡ slice_index rest 0 - 1 = omega (arith, first) in
-    let whole : (number * (2 * pairs + 1) + p) * count + pairing_number pairs less ≡ pairing_number 4 partners =
-    omega (arith, r.counted, pairing_number-first pairs (take (2 * suc pairs) rest) f) in
-    let one : 1 ≤ count = pairing_count-pos pairs in
-    record {
-      choice = omega (arith, digit, f.low);
-      small = omega (arith, digit, whole, pairing_number-lt 4 partners h, mul-le-mul_left (number * (2 * pairs + 1) + p) one);
-      more = λ next is size.
-          let same : take (2 * pairs) next ≡ less = is p f.others (ap (λ n. take n rest) two ∙ f.is) in
-          subst (λ d. RankedPairs pairs (number * (2 * pairs + 1) + d) next partners) digit (record {
-            size = size;
-            valid = subst (IsPairing (2 * pairs)) (sym same) f.rest;
-            counted = ap (λ ys. (number * (2 * pairs + 1) + p) * count + pairing_number pairs ys) same ∙ whole;
-          });
-    }
+    grind (
+      arith,
+      r.counted,
+      pairing_number-first pairs (take (2 * suc pairs) rest) (pairing_first pairs (take (2 * suc pairs) rest) r.valid),
+      pairing_number-lt 4 partners h,
+      mul-le-mul_left (number * (2 * pairs + 1) + (pairing_first pairs (take (2 * suc pairs) rest) r.valid).partner) (pairing_count-pos pairs),
+    )
 
 pub rank_end : (pairs number : ℕ) (rest partners : List ℕ) → pairs ≤ 0 → RankedPairs pairs number rest partners
     → number ≡ pairing_number 4 partners
 unfolding pairing_number
-rank_end zero number rest partners le r = omega (arith, r.counted)
-rank_end (suc pairs) number rest partners le r = absurd (omega arith)
+rank_end pairs number rest partners h0 h1 = grind arith

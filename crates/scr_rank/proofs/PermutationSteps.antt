@@ -2,8 +2,7 @@
 use Rattle.std.proofs.Common.{◌≡◌, ℕ, zero, suc, ◌+◌, ◌-◌, ◌*◌, ◌/◌, ◌%◌, ◌^◌, ◌<◌, ◌≤◌, All, List, [], ◌∷◌, map, length, take, drop, set, slice_index, refl, sym, ap, ◌∙◌, subst, zero-add, arith}
 use Rattle.std.specs.List.{swap}
 use Rattle.std.proofs.lemmas.List.Edits.{swap_is}
-use Rattle.std.proofs.lemmas.List.Elements.{All-same, All-weaker}
-use Rattle.std.proofs.lemmas.List.{take_rest, at_drop_more, length-drop, length-set, drop-set, drop-set-lt, drop-append-le, length-take-le, drop-take, drop_all, append-nil}
+use Rattle.std.proofs.lemmas.List.{take_rest, at_drop_more, length-drop, drop-set, drop-set-lt, drop-append-le, drop-take, drop_all, append-nil}
 use Rattle.std.proofs.lemmas.Nat.{mod_below, div-mul-add, mod-mul-add}
 use Rattle.std.proofs.Math.Nat.{mul_comm, div-div-eq-div-mul, div-one, mod-eq_of_lt}
 use Rattle.std.proofs.Math.Arith.{mod-mul}
@@ -25,10 +24,7 @@ factorial-more m (suc d) =
 
 -- n! fits 32 bits for n up to 12
 pub factorial-small : (n : ℕ) → n ≤ 12 → factorial n < 2 ^ 32
-factorial-small n le =
-    let d : ℕ = 12 - n in
-    let e : d + n ≡ 12 = omega arith in
-    omega (arith, factorial-more n d, ap factorial e)
+factorial-small n le = grind (arith, factorial-more n (12 - n))
 
 pub inversions-le : (n : ℕ) (xs : List ℕ) → length xs ≤ n → inversions xs ≤ n * length xs
 inversions-le n [] le = omega arith
@@ -41,9 +37,7 @@ inversions-small xs lt = omega (arith, inversions-le (2 ^ 16) xs (omega arith))
 
 pub inversions-drop : (xs : List ℕ) (place : ℕ) → place < length xs
     → inversions (drop place xs) ≡ lesser_count (slice_index xs place) (take (length xs - (place + 1)) (drop (place + 1) xs)) + inversions (drop (place + 1) xs)
-inversions-drop xs place lt =
-    at_drop_more inversions xs place 0 lt
-    ∙ ap (λ zs. lesser_count (slice_index xs place) zs + inversions (drop (place + 1) xs)) (sym (take_rest xs (place + 1)))
+inversions-drop xs place lt = cc (at_drop_more inversions xs place 0 lt, take_rest xs (place + 1))
 
 -- ---- the number from a place on
 
@@ -58,36 +52,15 @@ pub rank_step : (xs : List ℕ) (place number weight count : ℕ) → length xs 
     → count ≡ lesser_count (slice_index xs (place - 1)) (take (length xs - (place - 1 + 1)) (drop (place - 1 + 1) xs))
     → RankStep xs place number weight count
 rank_step xs place number weight count few pos le en ew ec =
-    let q : ℕ = place - 1 in
-    let e : q + 1 ≡ place = omega arith in
-    let m : ℕ = length xs - place in
-    let ys : List ℕ = drop (q + 1) xs in
-    let f : ℕ = factorial m in
-    let c : ℕ = lesser_count (slice_index xs q) ys in
-    let size : length ys ≡ m = length-drop (q + 1) xs ∙ ap (λ z. length xs - z) e in
-    let room : length xs - q ≡ suc m = omega arith in
-    let whole : permutation_number (drop q xs) ≡ c * factorial (length ys) + permutation_number ys = at_drop_more permutation_number xs q 0 (omega arith) in
-    let ec' : count ≡ c = ec ∙ ap (lesser_count (slice_index xs q)) (take_rest xs (q + 1)) in
-    let counted : number + weight * count ≡ permutation_number (drop q xs) =
-    omega (
+    grind (
       arith,
-      whole,
-      en,
-      ap (λ z. permutation_number (drop z xs)) e,
-      ap (λ z. c * factorial z) size,
-      ap (λ z. z * count) ew,
-      ap (λ z. f * z) ec',
-      mul_comm f c,
-    ) in
-    let weighed : weight * (length xs - q) ≡ factorial (length xs - q) =
-    ap (λ z. z * (length xs - q)) ew ∙ ap (λ z. f * z) room ∙ mul_comm f (suc m) ∙ ap factorial (sym room) in
-    let small : factorial (length xs - q) < 2 ^ 32 = factorial-small (length xs - q) (omega arith) in
-    record {
-      counted = counted;
-      weighed = weighed;
-      low = omega (arith, counted, permutation_number-lt (drop q xs), ap factorial (length-drop q xs), small);
-      low_weight = omega (arith, weighed, small);
-    }
+      take_rest xs ((place - 1) + 1),
+      mul_comm (factorial (length xs - place)) (lesser_count (slice_index xs (place - 1)) (drop ((place - 1) + 1) xs)),
+      mul_comm (factorial (length xs - place)) (suc (length xs - place)),
+      factorial-small (length xs - (place - 1)) (omega arith),
+      permutation_number-lt (drop (place - 1) xs),
+      length-drop (place - 1) xs,
+    )
 
 -- ---- the permutation from a place on
 
@@ -114,8 +87,7 @@ after_write out q d = take_rest (set out q d) (q + 1) ∙ drop-set-lt (q + 1) ou
 -- the list from that place on, once what follows is nth_except
 from_write : (out : List ℕ) (q d : ℕ) (ys : List ℕ) → q < length out
     → drop q (put_mid (q + 1) (length (set out q d) - (q + 1)) (set out q d) ys) ≡ d ∷ ys
-from_write out q d ys lt =
-    grind (arith, length-set, drop-append-le, length-take-le, drop-take, drop-set, drop_all, length-drop, append-nil)
+from_write out q d ys lt = grind (arith, drop-append-le, drop-take, drop-set, drop_all, length-drop, append-nil)
 
 module _ (len : ℕ) (out : List ℕ) (size : length out ≡ len) (place r rest d : ℕ) (few : len ≤ 12) (pos : 0 < place) (le : place ≤ len) (h : UnrankStep (len - place) r rest (drop place out)) (is_d : d ≡ rest % (len - (place - 1))) where
   pub unrank_room : All (λ z. z < 255) (take (length (set out (place - 1) d) - (place - 1 + 1)) (drop (place - 1 + 1) (set out (place - 1) d)))
@@ -124,26 +96,18 @@ module _ (len : ℕ) (out : List ℕ) (size : length out ≡ len) (place r rest 
       let e : q + 1 ≡ place = omega arith in
       let n : ℕ = len - place in
       let own : IsPermutation n (drop place out) = subst (IsPermutation n) (sym h.list) (IsPermutation-at n (r % factorial n) (mod_below r (factorial n) (factorial-pos n))) in
-      All-same (λ z. z < 255) _ (drop place out) (after_write out q d ∙ ap (λ z. drop z out) e)
-      (All-weaker (λ z. z < n) (λ z. z < 255) (λ z low. omega arith) (drop place out) (All-permutation n (drop place out) own))
+      grind (arith, after_write out q d, All-permutation n (drop place out) own)
 
   pub unrank_step : (ys : List ℕ)
       → ys ≡ map (nth_except d) (take (length (set out (place - 1) d) - (place - 1 + 1)) (drop (place - 1 + 1) (set out (place - 1) d)))
       → UnrankStep (len - (place - 1)) r (rest / (len - (place - 1))) (drop (place - 1) (put_mid (place - 1 + 1) (length (set out (place - 1) d) - (place - 1 + 1)) (set out (place - 1) d) ys))
   unrank_step ys ey =
-      let q : ℕ = place - 1 in
-      let e : q + 1 ≡ place = omega arith in
-      let n : ℕ = len - place in
-      let room : suc n ≡ len - q = omega arith in
-      let xs : List ℕ = drop place out in
-      let same_d : rest % suc n ≡ d = ap (λ z. rest % z) room ∙ sym is_d in
-      let list : rest % suc n ∷ map (nth_except (rest % suc n)) xs ≡ drop q (put_mid (q + 1) (length (set out q d) - (q + 1)) (set out q d) ys) =
-      ap (λ z. z ∷ map (nth_except z) xs) same_d
-      ∙ ap (λ zs. d ∷ map (nth_except d) zs) (sym (after_write out q d ∙ ap (λ z. drop z out) e))
-      ∙ ap (λ zs. d ∷ zs) (sym ey)
-      ∙ sym (from_write out q d ys (omega arith)) in
-      subst (λ zs. UnrankStep (len - q) r (rest / (len - q)) zs) list
-      (subst (λ z. UnrankStep z r (rest / z) (rest % suc n ∷ map (nth_except (rest % suc n)) xs)) room (unrank_more n r rest xs h))
+      grind (
+        arith,
+        after_write out (place - 1) d,
+        from_write out (place - 1) d ys (omega arith),
+        unrank_more (len - place) r rest (drop place out) h,
+      )
 
 -- at the start nothing is written
 pub unrank_start : (out : List ℕ) (r : ℕ) → UnrankStep (length out - length out) r r (drop (length out) out)

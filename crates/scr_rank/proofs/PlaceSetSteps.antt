@@ -1,10 +1,10 @@
 -- The steps of the loops over sets of places, as facts about lists.
-use Rattle.std.proofs.Common.{◌≡◌, ℕ, zero, suc, ◌+◌, ◌-◌, ◌*◌, ◌/◌, ◌^◌, ◌<◌, ◌≤◌, inl, inr, List, [], ◌∷◌, ◌++◌, length, take, drop, set, slice_index, refl, sym, ap, ◌∙◌, add-one, arith}
+use Rattle.std.proofs.Common.{◌≡◌, ℕ, zero, suc, ◌+◌, ◌-◌, ◌*◌, ◌/◌, ◌^◌, ◌<◌, ◌≤◌, inl, inr, List, ◌∷◌, ◌++◌, length, take, drop, set, slice_index, sym, ap, ◌∙◌, add-one, arith}
 use Rattle.std.proofs.lemmas.Bool.{cases_lt}
 use Rattle.std.proofs.lemmas.List.{drop_more, length-drop, take_more_set, append_assoc, append-nil, length-take, take_all, length-set}
-use Rattle.std.proofs.Math.Nat.{mul-div_cancel, mul-le-mul_right, mul-le-mul_left, pow-le-pow_right, mul-zero, zero-div}
+use Rattle.std.proofs.Math.Nat.{mul-div_cancel, mul-le-mul_right, pow-le-pow_right}
 use Rattle.scr_combinatorics.specs.PlaceSets.{binomial, IsPlaceSet, place_set_number_from, place_set_number, place_set_from, place_set_at}
-use Rattle.scr_combinatorics.proofs.PlaceSets.{binomial-zero, binomial-above, binomial-next, binomial-le_pow, place_set_number-lt, number-here, number-later, number-empty, set-takes, set-skips, set-none, IsPlaceSet-at}
+use Rattle.scr_combinatorics.proofs.PlaceSets.{binomial-above, binomial-next, binomial-le_pow, place_set_number-lt, number-here, IsPlaceSet-at}
 
 -- ---- binomials
 
@@ -28,11 +28,6 @@ abbrev pub with_first : ℕ → ℕ → ℕ
 with_first n zero = 0
 with_first n (suc k) = binomial n k
 
--- the others lack it
-binomial-split : (n k : ℕ) → binomial (suc n) k ≡ with_first n k + binomial n k
-binomial-split n zero = omega (arith, binomial-zero n)
-binomial-split n (suc k) = omega arith
-
 share_step : (a b j d n : ℕ) → n ≡ j + d → b * suc j ≡ a * d → (a + b) * suc j ≡ a * suc n
 share_step a b j d n e h = rw e (omega arith)
 
@@ -48,8 +43,7 @@ first_share n j =
     ]
 
 with_first-share : (n k : ℕ) → binomial (suc n) k * k / suc n ≡ with_first n k
-with_first-share n zero = ap (λ z. z / suc n) (mul-zero (binomial (suc n) 0)) ∙ zero-div (suc n)
-with_first-share n (suc j) = let pos : 0 < suc n = omega arith in ap (λ z. z / suc n) (first_share n j) ∙ mul-div_cancel (binomial n j) pos
+with_first-share n k = grind (arith, first_share, mul-div_cancel)
 
 -- what the loops compute of the sets that are left, `left` places from here on and `size` of them still to come
 pub record NextSets (places place size sets : ℕ) : Type 0 where
@@ -63,14 +57,7 @@ pub next_sets : (places place size sets : ℕ) → places ≤ 12 → place < pla
 next_sets places place size sets few lt within e =
     let n : ℕ = places - (place + 1) in
     let all : places - place ≡ suc n = omega arith in
-    let whole : sets ≡ binomial (suc n) size = e ∙ ap (λ z. binomial z size) all in
-    let low : sets ≤ 4096 = omega (arith, e, binomial-small (places - place) size (omega arith)) in
-    record {
-      with_place = ap (λ z. z * size / (places - place)) whole ∙ ap (λ z. binomial (suc n) size * size / z) all ∙ with_first-share n size;
-      split = whole ∙ binomial-split n size;
-      small = omega (arith, mul-le-mul_right size low, mul-le-mul_left 4096 within);
-      few = low;
-    }
+    grind (arith, binomial-small, with_first-share)
 
 -- a set that takes the place has one place less to come
 next_size : (n size chosen : ℕ) → chosen < size → with_first n (size - chosen) ≡ binomial n (size - (chosen + 1))
@@ -96,14 +83,12 @@ rank_here xs places place passed lt more here = grind (arith, rest_of, drop_more
 
 number-past : (place rest : ℕ) (zs : List ℕ) → ((x : ℕ) (ys : List ℕ) → zs ≡ x ∷ ys → x ≡ place → ⊥)
     → place_set_number_from place (suc rest) zs ≡ with_first rest (length zs) + place_set_number_from (suc place) rest zs
-number-past place rest [] other = omega (arith, number-empty (suc place) rest)
-number-past place rest (x ∷ ys) other = number-later place rest x ys (other x ys refl)
+number-past place rest zs h0 = grind arith
 
 rank_past : (xs : List ℕ) (places place passed size : ℕ) → length xs ≡ size → place < places
     → (passed < size → slice_index xs passed ≡ place → ⊥)
     → rest_number xs places place passed ≡ with_first (places - (place + 1)) (size - passed) + rest_number xs places (place + 1) passed
-rank_past xs places place passed size is lt other =
-    grind (arith, length-drop, drop_more, rest_of, number-past, add-one)
+rank_past xs places place passed size is lt other = grind (arith, length-drop, drop_more, rest_of, number-past)
 
 rank_small : (places size : ℕ) (xs : List ℕ) → places ≤ 12 → IsPlaceSet places size xs
     → (place_set_number places xs < 2 ^ 32) × (size ≤ 12)
@@ -120,8 +105,7 @@ whole size out places place chosen rest = take chosen out ++ place_set_from plac
 module _ (size : ℕ) (out : List ℕ) (places place chosen rest : ℕ) (lt : place < places) where
   set-past : (count k : ℕ) → with_first count k ≤ rest
       → place_set_from place (suc count) k rest ≡ place_set_from (suc place) count k (rest - with_first count k)
-  set-past count zero high = sym (set-none (suc place) count (rest - 0))
-  set-past count (suc k) high = set-skips place count k rest high
+  set-past count k h0 = grind arith
 
   unrank_takes : chosen < size → length out ≡ size → rest < with_first (places - (place + 1)) (size - chosen)
       → whole size (set out chosen place) places (place + 1) (chosen + 1) rest ≡ whole size out places place chosen rest
@@ -129,15 +113,7 @@ module _ (size : ℕ) (out : List ℕ) (places place chosen rest : ℕ) (lt : pl
       let count : ℕ = places - (place + 1) in
       let k : ℕ = size - (chosen + 1) in
       let all : suc count ≡ places - place = omega arith in
-      let some : suc k ≡ size - chosen = omega arith in
-      let low' : rest < binomial count k = omega (arith, low, ap (with_first count) some) in
-      let tail : List ℕ = place_set_from (place + 1) count k rest in
-      ap (λ zs. zs ++ tail) (take_more_set out chosen place (omega arith))
-      ∙ append_assoc (take chosen out) (place ∷ []) tail
-      ∙ ap (λ z. take chosen out ++ (place ∷ place_set_from z count k rest)) (add-one place)
-      ∙ ap (λ zs. take chosen out ++ zs) (sym (set-takes place count k rest low'))
-      ∙ ap (λ z. take chosen out ++ place_set_from place z (suc k) rest) all
-      ∙ ap (λ z. take chosen out ++ place_set_from place (places - place) z rest) some
+      grind (arith, take_more_set, append_assoc)
 
   unrank_past : with_first (places - (place + 1)) (size - chosen) ≤ rest
       → whole size out places (place + 1) chosen (rest - with_first (places - (place + 1)) (size - chosen)) ≡ whole size out places place chosen rest
@@ -165,8 +141,7 @@ module _ {xs : List ℕ} {places size place passed number sets : ℕ} (few : pla
 
   -- the number fits
   pub ranked_low : number + sets * (size - passed) / (places - place) < 2 ^ 64
-  ranked_low =
-      omega (arith, (rank_small places size xs few valid).0, so_far.counted, ranked_next.few, ranked_next.with_place, ranked_next.split)
+  ranked_low = grind (arith, rank_small, ranked_next)
 
   -- a place of the set
   pub ranked_here : passed < size → slice_index xs passed ≡ place
@@ -205,11 +180,7 @@ module _ {number places size : ℕ} {out : List ℕ} {place chosen rest sets : �
 
   -- where a number is below that of the sets with the place, some place is still to come
   pub some_left : rest < sets * (size - chosen) / (places - place) → chosen < size
-  some_left low =
-      elim (cases_lt chosen size) [
-        | inl more ↦ more
-        | inr none ↦ absurd (omega (arith, unranked_next.with_place, none_left (places - (place + 1)) size chosen none))
-      ]
+  some_left low = grind arith
 
   -- the set has the place
   pub unranked_takes : rest < sets * (size - chosen) / (places - place)

@@ -50,8 +50,7 @@ minimum_rest None least = codes " random moves"
 
 minimum_comma : (minima : Option Minima) (least : ℕ) → minimum_text minima least ≡ 44 ∷ minimum_rest minima least
 unfolding minimum_rest
-minimum_comma (Some minima) least = refl
-minimum_comma None least = refl
+minimum_comma minima least = grind arith
 
 digits_no_comma : (n : ℕ) → n < 2 ^ 64 → Lacks 44 (decimal n)
 digits_no_comma n low = lacks_by 44 is_ascii_digit digit (decimal n) (digits_decimal digits_model n low)
@@ -70,14 +69,10 @@ name_rest (byte ∷ name) = codes " " ++ byte ∷ name ++ 44 ∷ []
 
 name_comma : (name : List ℕ) → own_name_text name ++ 44 ∷ [] ≡ 44 ∷ name_rest name
 unfolding name_rest
-name_comma [] = refl
-name_comma (byte ∷ name) = refl
+name_comma name = grind arith
 
 one_name : (a b : List ℕ) → own_name_text a ≡ own_name_text b → a ≡ b
-one_name [] [] same = refl
-one_name [] (byte ∷ name) same = absurd (cc)
-one_name (byte ∷ name) [] same = absurd (cc)
-one_name (x ∷ a) (y ∷ b) same = cc
+one_name a b h0 = grind arith
 
 one_minimum : (minima : Option Minima) (n m : ℕ) (a b : List ℕ) → n ≤ greatest_in minima → m ≤ greatest_in minima → greatest_in minima ≤ 15
     → minimum_rest minima n ++ own_name_text a ≡ minimum_rest minima m ++ own_name_text b → (n ≡ m) × (a ≡ b)
@@ -92,8 +87,7 @@ one_minimum (Some minima) n m a b few few' range same =
     ap (λ x. decimal n ++ x) (sym (name_comma a)) ∙ sym (append_assoc (decimal n) (own_name_text a) (44 ∷ []))
     ∙ ap (λ x. x ++ 44 ∷ []) behind ∙ append_assoc (decimal m) (own_name_text b) (44 ∷ []) ∙ ap (λ x. decimal m ++ x) (name_comma b) in
     let digits = (apart 44 (decimal n) (name_rest a) (decimal m) (name_rest b) refl (digits_no_comma n low) (digits_no_comma m low') ended).0 in
-    let names : decimal n ++ own_name_text a ≡ decimal n ++ own_name_text b = behind ∙ ap (λ d. d ++ own_name_text b) (sym digits) in
-    (one_decimal n m low low' digits, one_name a b (append_cancel_left (decimal n) _ _ names))
+    grind (arith, behind, digits, one_decimal, low, low', one_name, append_cancel_left)
 
 -- ---- heads
 

@@ -1,8 +1,7 @@
 -- Lines of a text, and what stands behind a front.
-use Rattle.std.proofs.Common.{◌≡◌, ℕ, zero, suc, ◌+◌, ◌-◌, ◌==◌, ◌||◌, ◌<◌, ◌≤◌, Bool, true, false, cond, List, [], ◌∷◌, ◌++◌, length, take, drop, get_or, Some, None, refl, sym, ap, ◌∙◌, arith, drop-cons, length-drop}
+use Rattle.std.proofs.Common.{◌≡◌, ℕ, zero, suc, ◌+◌, ◌-◌, ◌==◌, ◌||◌, ◌<◌, ◌≤◌, Bool, false, cond, List, [], ◌∷◌, ◌++◌, length, take, drop, get_or, Some, None, refl, ap, ◌∙◌, arith, drop-cons, length-drop}
 use Rattle.std.specs.Prelude.{position, nat_lt}
 use Rattle.std.specs.List.{IsSplitAt, list_any, position_or_len}
-use Rattle.std.proofs.lemmas.Bool.Decides.{nat_tests}
 use Rattle.std.proofs.lemmas.List.{take_all, take-append-le, take-append-drop}
 use Rattle.std.proofs.lemmas.List.Quantifiers.{position-Some}
 use Rattle.std.proofs.lemmas.List.Sums.{fails_before_first}
@@ -37,18 +36,12 @@ first_cut text end found =
     let byte : get_or text end 0 ≡ 10 = eqb-true (get_or text end 0) 10 it.1 in
     let size : length (drop (end + 1) text) ≤ length text - (end + 1) = omega (arith, length-drop (end + 1) text) in
     let next : end + 1 ≡ suc end = omega arith in
-    let whole = take_all (length text - (end + 1)) (drop (end + 1) text) size in (
-      sym (take-append-drop end text) ∙ ap (λ x. take end text ++ x)
-          (drop-cons text end 0 it.0 ∙ ap (λ b. b ∷ drop (suc end) text) byte ∙ ap (λ n. 10 ∷ drop n text) (sym next) ∙ ap (λ x. 10 ∷ x) (sym whole)),
-      one_line-front text end it.2 (let inside = it.0 in omega (arith, inside)),
-    )
+    grind (arith, take_all, size, take-append-drop, drop-cons, it, byte, next, one_line-front)
 
 found_at : (size place : ℕ) (b : Bool) → nat_lt place size ≡ b → cond b (Some place) None ≡ None → size ≤ place
-found_at size place true is none = cc
-found_at size place false is none = grind (arith, nat_tests)
+found_at size place b h0 h1 = grind arith
 
 pub no_cut : (text : List ℕ) → position is_line_feed text ≡ None → IsOneLine text
 no_cut text none =
     let past = found_at (length text) (position_or_len is_line_feed text) (nat_lt (position_or_len is_line_feed text) (length text)) refl none in
-    ap (list_any (λ x. x == 10)) (sym (take_all (length text) text (omega arith)))
-    ∙ one_line-front text (length text) (λ k below. fails_before_first is_line_feed text k 0 (omega (arith, past, below))) (omega arith)
+    grind (arith, take_all (length text) text (omega arith), one_line-front, fails_before_first, past)

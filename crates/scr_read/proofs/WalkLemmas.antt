@@ -104,9 +104,6 @@ read_nothing text reader is = grind arith
 read_more : (text : List ℕ) (reader after : Reading) (x : Piece) → HasRead text reader → ReadsPiece reader after x → HasRead text after
 read_more text reader after x has it = grind (arith, length-append, append_assoc, text_of_lines-append, walk_more)
 
-read_shorter : (reader after : Reading) (x : Piece) → ReadsPiece reader after x → length after.rest < length reader.rest
-read_shorter reader after x it = grind (arith, length-append)
-
 read_all : (text : List ℕ) (reader : Reading) → HasRead text reader → IsRead reader.place reader.rest []
     → (rounds : List SheetRound) × IsSheet text rounds
 read_all text reader has read =

@@ -1,10 +1,10 @@
 -- The lines of a round, by their numbers.
-use Rattle.std.proofs.Common.{◌≡◌, ℕ, zero, suc, ◌+◌, ◌-◌, ◌*◌, ◌<◌, ◌≤◌, Some, List, [], ◌∷◌, ◌++◌, map, drop, length, refl, ap, ◌∙◌, arith, length-append, suc-mul}
+use Rattle.std.proofs.Common.{◌≡◌, ℕ, zero, suc, ◌+◌, ◌-◌, ◌*◌, ◌<◌, Some, List, [], ◌∷◌, ◌++◌, map, drop, length, refl, ap, ◌∙◌, arith, length-append, suc-mul}
 use Rattle.std.specs.Prelude.{codes, slice_get}
 use Rattle.std.specs.Fmt.{decimal}
 use Rattle.scr_text.specs.Lines.{text_of_lines}
 use Rattle.scr_text.proofs.WrittenLines.{first_line}
-use Rattle.scr_round.specs.Round.{Line, Fixed, Slot, labels_from, slot_lines, group_lines, groups_lines, IsBelow}
+use Rattle.scr_round.specs.Round.{Line, Fixed, Slot, labels_from, slot_lines, group_lines, groups_lines}
 
 -- ---- the text of the lines that are left
 
@@ -142,8 +142,3 @@ round_lines-at own groups group place line lines head later number below within 
     ∙ ap (slice_get (groups_lines own groups 65 0)) number
     ∙ groups_lines-at own groups 65 0 group place below within
     ∙ ap (λ s. slice_get (group_lines own (65 + group) s) place) no_slot
-
--- one slot of so many is one of more
-pub IsBelow-more : (few many : ℕ) (line : Line) → few ≤ many → IsBelow few line → IsBelow many line
-IsBelow-more few many (Fixed text) more it = tt
-IsBelow-more few many (Slot label slot) more it = omega arith

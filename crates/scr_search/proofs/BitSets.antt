@@ -14,13 +14,7 @@ use Rattle.scr_search.specs.TurnSets.{contains_turn, turns_in}
 -- ---- one bit
 
 both_ones : (x y : ℕ) → x < 2 → y < 2 → (min x y == 1) ≡ ((x == 1) && (y == 1))
-both_ones zero zero a b = refl
-both_ones zero (suc zero) a b = refl
-both_ones (suc zero) zero a b = refl
-both_ones (suc zero) (suc zero) a b = refl
-both_ones (suc (suc x)) y a b = absurd (omega arith)
-both_ones zero (suc (suc y)) a b = absurd (omega arith)
-both_ones (suc zero) (suc (suc y)) a b = absurd (omega arith)
+both_ones x y h0 h1 = grind arith
 
 pub has_turn-and : (a b t : ℕ) → contains_turn (bit_and a b) t ≡ (contains_turn a t && contains_turn b t)
 has_turn-and a b t = ap (λ x. x == 1) (bit_at_and a b t) ∙ both_ones (bit_at a t) (bit_at b t) (bit_at-lt a t) (bit_at-lt b t)
@@ -30,11 +24,9 @@ pub has_turn-with : (bits turn t : ℕ) → turn < 18
 has_turn-with bits turn t lt =
     elim (cases_eq t turn) [
       | inl same ↦
-          ap (λ u. contains_turn (bit_or bits (1 * 2 ^ turn % 2 ^ 32)) u) same ∙ ap (λ x. x == 1) (bit_at_set_same w32 bits turn (omega arith))
-          ∙ sym (ap (λ b. contains_turn bits t || b) (eq-eqb t turn same) ∙ or-true (contains_turn bits t))
+          cc (bit_at_set_same w32 bits turn (omega arith), eq-eqb t turn same, or-true (contains_turn bits t))
       | inr other ↦
-          ap (λ x. x == 1) (bit_at_set_other w32 bits turn (omega arith) t other)
-          ∙ sym (ap (λ b. contains_turn bits t || b) (ne_eqb t turn other) ∙ or-false (contains_turn bits t))
+          grind (arith, bit_at_set_other w32 bits turn (omega arith) t other, or-false (contains_turn bits t))
     ]
 
 -- ---- the lowest bit
@@ -56,16 +48,11 @@ first_from p q low zero t le lt a b before same = absurd (omega arith)
 first_from p q low (suc n) t le lt a b before same =
     elim (cases_eq low t) [
       | inl here ↦
-          let rest = agree_from p q (suc low) n (λ k after below. sym (same k (omega arith) (λ e. omega arith))) in
-          ap (λ d. cond d (low ∷ filter p (numbers_from (suc low) n)) (filter p (numbers_from (suc low) n))) (ap p here ∙ a)
-          ∙ ap (λ x. x ∷ filter p (numbers_from (suc low) n)) here ∙ ap (λ xs. t ∷ xs) rest
-          ∙ sym (ap (λ d. t ∷ cond d (low ∷ filter q (numbers_from (suc low) n)) (filter q (numbers_from (suc low) n))) (ap q here ∙ b))
+          grind (arith, agree_from)
       | inr other ↦
           let none : p low ≡ false = before low (omega arith) in
           let rest = first_from p q (suc low) n t (omega arith) (omega arith) a b before (λ k below ne. same k (omega arith) ne) in
-          ap (λ d. cond d (low ∷ filter p (numbers_from (suc low) n)) (filter p (numbers_from (suc low) n))) none
-          ∙ rest
-          ∙ sym (ap (λ d. t ∷ cond d (low ∷ filter q (numbers_from (suc low) n)) (filter q (numbers_from (suc low) n))) (same low (omega arith) other ∙ none))
+          grind arith
     ]
 
 zero_bit : (x : ℕ) → x ≡ 0 → (x == 1) ≡ false
@@ -123,9 +110,7 @@ turns_in-lowest bits pos lt =
 
 none_from : (low n : ℕ) → filter (contains_turn 0) (numbers_from low n) ≡ []
 none_from low zero = refl
-none_from low (suc n) =
-    ap (λ d. cond d (low ∷ filter (contains_turn 0) (numbers_from (suc low) n)) (filter (contains_turn 0) (numbers_from (suc low) n))) (zero_bit (bit_at 0 low) (bit_at-zero low))
-    ∙ none_from (suc low) n
+none_from low (suc n) = grind (arith, zero_bit, bit_at-zero, none_from (suc low) n)
 
 pub turns_in-none : turns_in 0 ≡ []
 unfolding turns_in
@@ -135,6 +120,4 @@ pub has_turn-all : (t : ℕ) → t < 18 → contains_turn (2 ^ 18 - 1) t ≡ tru
 has_turn-all t lt = ap (λ x. x == 1) (bit_at_ones 18 t lt)
 
 pub power_below : (turn : ℕ) → turn < 18 → 1 * 2 ^ turn % 2 ^ 32 < 2 ^ 18
-power_below turn lt =
-    let small : 2 ^ turn < 2 ^ 18 = pow-lt lt in
-    omega (arith, mod-le (1 * 2 ^ turn) (2 ^ 32))
+power_below turn lt = grind (arith, pow-lt, mod-le)

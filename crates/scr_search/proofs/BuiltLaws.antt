@@ -1,5 +1,5 @@
 -- What is so of a table that is built over moves, is so of the coordinate that these show.
-use Rattle.std.proofs.Common.{◌≡◌, ℕ, ◌*◌, ◌^◌, ◌<◌, Bool, true, false, List, [], ◌∷◌, Result, Some, sym, ap, ◌∙◌, subst, arith}
+use Rattle.std.proofs.Common.{◌≡◌, ℕ, ◌*◌, ◌^◌, ◌<◌, Bool, List, [], ◌∷◌, Result, Some, sym, ap, ◌∙◌, subst, arith}
 use Rattle.std.specs.Prelude.{IfOk, slice_get}
 use Rattle.std.specs.Option.{option_map}
 use Rattle.std.proofs.lemmas.Result.{IfOk-weaker}
@@ -18,8 +18,7 @@ use Rattle.scr_search.specs.Views.{beside}
 
 pub ShowsSame-beside : (b : Bool) (l h low high : Coordinate) → h.turns ≡ l.turns → ShowsSame l low → ShowsSame h high
     → ShowsSame (beside b l h) (beside b low high)
-ShowsSame-beside false l h low high turns f g = ShowsSame-product l h low high turns f g
-ShowsSame-beside true l h low high turns f g = ShowsSame-product h l high low (sym turns) g f
+ShowsSame-beside b l h low high h0 h1 h2 = grind (arith, ShowsSame-product)
 
 -- what is asked of the moves that stand side by side
 pub fits-beside : (l h low high : Coordinate) (n m turns : ℕ) → l.turns ≡ turns → h.turns ≡ turns → l.count ≡ n
@@ -60,7 +59,4 @@ pub IfOk-outlooks : {X E : Type 0} (items : X → List Outlook) (line : Extent �
     → (table : PruningTable) (shown : Coordinate) → StaysBelow (line f).coordinate → ShowsSame (line e).coordinate shown
     → (r : Result X E) → IfOk r (λ all. AreOutlooks shown table.distances.distances (items all))
     → IfOk r (λ all. AreOutlooksOf (line f) table (items all))
-IfOk-outlooks items line e f same table shown below shows r found =
-    subst (λ x. IfOk r (λ all. AreOutlooksOf (line x) table (items all))) same
-    (IfOk-weaker r (λ all. AreOutlooks shown table.distances.distances (items all)) (λ all. AreOutlooksOf (line e) table (items all))
-    (λ all. AreOutlooks-same (line e).coordinate shown (subst (λ x. StaysBelow (line x).coordinate) (sym same) below) shows table.distances.distances (items all)) found)
+IfOk-outlooks items line e f same table shown below shows r found = grind (arith, IfOk-weaker, AreOutlooks-same)

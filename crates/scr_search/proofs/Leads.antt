@@ -1,6 +1,6 @@
 -- Where words lead.
-use Rattle.std.proofs.Common.{◌≡◌, ℕ, ◌<◌, Bool, true, false, List, [], ◌∷◌, ◌++◌, length, get_or, slice_index, Option, Some}
-use Rattle.std.proofs.Common.{None, inl, inr, refl, sym, ap, ◌∙◌, subst}
+use Rattle.std.proofs.Common.{◌≡◌, ℕ, ◌<◌, Bool, true, false, List, [], ◌∷◌, ◌++◌, length, get_or, slice_index, Option, Some, arith}
+use Rattle.std.proofs.Common.{None, refl, sym, ap, ◌∙◌, subst}
 use Rattle.std.specs.Prelude.{All, option_and_then, slice_get}
 use Rattle.std.specs.Option.{option_map_or}
 use Rattle.std.proofs.lemmas.Bool.{cases_lt, false≢true}
@@ -39,10 +39,7 @@ pub record IsStep (test : CubeState → Bool) (c : CubeState) (t : ℕ) (others 
 
 pub step_of : (test : CubeState → Bool) (c : CubeState) (t : ℕ) (others : List ℕ) → leads test c (t ∷ others) ≡ true
     → IsStep test c t others
-step_of test c t others way =
-    let whole = leads-parts test c (t ∷ others) way in
-    let parts = play-parts after_turn c whole.0 t others whole.1 in
-    record { there = parts.0; to = parts.1; way = leads-played test parts.0 whole.0 others parts.2 ∙ whole.2 }
+step_of test c t others way = grind (arith, play-parts, leads-played)
 
 -- ---- words of places
 
@@ -74,11 +71,7 @@ no_state : (o : Option CubeState) (d : CubeState) → o ≡ None → o ≡ Some 
 no_state o d a b = cc
 
 pub turn-below : (c d : CubeState) (t : ℕ) → after_turn c t ≡ Some d → t < 18
-turn-below c d t e =
-    elim (cases_lt t 18) [
-      | inl lt ↦ lt
-      | inr le ↦ absurd (no_state (after_turn c t) d (lawful_cube.no_more c t le) e)
-    ]
+turn-below c d t e = grind (arith, cases_lt, no_state, lawful_cube)
 
 -- so the turns of a word that is played are turns of the 18
 pub played-below : (c d : CubeState) (w : List ℕ) → play after_turn c w ≡ Some d → All (λ t. t < 18) w
@@ -108,10 +101,7 @@ played_more c there d word t played to = play-append after_turn c there word (t 
 -- ---- tests of words and numbers
 
 pub not_so : (b : Bool) → (b ≡ true → ⊥) → b ≡ false
-not_so true h = absurd (h refl)
-not_so false h = refl
+not_so b h0 = grind arith
 
 pub same_test : (a b : Bool) → (a ≡ true → b ≡ true) → (b ≡ true → a ≡ true) → a ≡ b
-same_test true b f g = sym (f refl)
-same_test false true f g = g refl
-same_test false false f g = refl
+same_test a b h0 h1 = grind arith

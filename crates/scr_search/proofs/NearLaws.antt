@@ -1,6 +1,6 @@
 -- Near sets have the numbers that they should, and what they leave of a set of turns keeps the ways.
-use Rattle.std.proofs.Common.{◌≡◌, ◌⊎◌, ℕ, suc, ◌+◌, ◌/◌, ◌%◌, ◌^◌, ◌<◌, ◌≤◌, Bool, true, List, [], ◌∷◌, ◌++◌, length, get_or, Some, inl, inr, refl, sym, ap, ◌∙◌, subst, ne_eqb, eq-eqb, eqb-true, arith, below_more}
-use Rattle.std.specs.Prelude.{Contains, Err, IfOk, IsSomeAnd, None, Ok, slice_get, slice_index_or, ◌&&◌, ◌||◌, ◌==◌, not}
+use Rattle.std.proofs.Common.{◌≡◌, ◌⊎◌, ℕ, suc, ◌+◌, ◌/◌, ◌%◌, ◌^◌, ◌<◌, ◌≤◌, Bool, true, List, [], ◌∷◌, ◌++◌, length, get_or, Some, inl, inr, refl, sym, ap, ◌∙◌, subst, ne_eqb, eq-eqb, eqb-true, arith}
+use Rattle.std.specs.Prelude.{Contains, IfOk, IsSomeAnd, None, slice_get, slice_index_or, ◌&&◌, ◌||◌, ◌==◌, not}
 use Rattle.std.proofs.lemmas.Bool.{and_parts, and_from, cases_eq, cases_lt, false≢true, or_cases, or_left, or_right}
 use Rattle.std.proofs.lemmas.List.{get_or_append_left, get_or-append-add, get_or_default}
 use Rattle.std.proofs.lemmas.List.Elements.{All-head, All-tail}
@@ -38,14 +38,11 @@ begins : (turns : List ℕ) (more : ℕ) (word : List ℕ) → Contains (words_o
 begins turns more [] there = absurd (omega (arith, (IsListed-listed turns (suc more) [] there).size))
 begins turns more (t ∷ others) there =
     let listed = IsListed-listed turns (suc more) (t ∷ others) there in
-    let first = All-head (Contains turns) t others listed.each in
-    record {
-      place = first.0;
-      below = first.1;
-      others = others;
-      listed = Contains-words_of turns more others (omega (arith, listed.size)) (All-tail (Contains turns) t others listed.each);
-      is = ap (λ u. u ∷ others) (sym (sym (get_or_default turns first.0 t 0 first.1) ∙ first.2));
-    }
+    grind (
+      arith,
+      Contains-words_of turns more others (omega (arith, listed.size)) (All-tail (Contains turns) t others listed.each),
+      get_or_default turns (All-head (Contains turns) t others listed.each).0 t 0 (All-head (Contains turns) t others listed.each).1,
+    )
 
 -- ---- level by level
 
@@ -53,19 +50,12 @@ begins turns more (t ∷ others) there =
 pub each-pushed : {X : Type 0} (P : ℕ → X → Type 0) (xs : List X) (x d : X)
     → ((k : ℕ) → k < length xs → P k (get_or xs k d)) → P (length xs) x → (k : ℕ) → k < length xs + 1
     → P k (get_or (xs ++ x ∷ []) k d)
-each-pushed P xs x d before here =
-    let end : length xs ≡ length xs + 0 = omega arith in
-    let last : get_or (xs ++ x ∷ []) (length xs) d ≡ x = ap (λ k. get_or (xs ++ x ∷ []) k d) end ∙ get_or-append-add xs (x ∷ []) 0 d in
-    below_more (λ k. P k (get_or (xs ++ x ∷ []) k d)) (length xs)
-    (λ k lt. subst (P k) (sym (get_or_append_left xs (x ∷ []) d k lt)) (before k lt))
-    (subst (P (length xs)) (sym last) here)
+each-pushed P xs x d before here = grind (arith, get_or-append-add xs (x ∷ []) 0 d, get_or_append_left)
 
 -- what a worker found, where it did
 found_there : (P : List ℕ → Type 0) (found : Listed) → IsSomeAnd found (λ out. IfOk out (λ list. P list.items))
     → IsThere found → P (numbers_in found)
-found_there P (Some (Ok list)) h there = h
-found_there P (Some (Err fault)) h there = absurd there
-found_there P None h there = absurd there
+found_there P found h0 h1 = grind arith
 
 module _ (v : Views) where
   -- the set of all numbers

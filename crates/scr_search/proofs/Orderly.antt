@@ -1,18 +1,14 @@
 -- Orderly words, letter by letter.
-use Rattle.std.proofs.Common.{◌≡◌, ℕ, suc, ◌-◌, Bool, true, false, List, [], ◌∷◌, ◌++◌, length, Some, refl, sym, ap, ◌∙◌, arith}
+use Rattle.std.proofs.Common.{◌≡◌, ℕ, ◌-◌, Bool, true, List, [], ◌∷◌, ◌++◌, length, Some, refl, ap, ◌∙◌, arith}
 use Rattle.std.specs.Prelude.{◌&&◌, slice_get}
-use Rattle.std.specs.Option.{option_map_or}
 use Rattle.std.proofs.lemmas.Bool.{and_parts, and_from}
-use Rattle.scr_search.specs.Orderly.{may_end, may_precede, is_orderly}
+use Rattle.scr_search.specs.Orderly.{may_end, is_orderly}
 
 -- ---- the last letter
 
 last-cons : (t u : ℕ) (w : List ℕ)
     → slice_get (t ∷ u ∷ w) (length (t ∷ u ∷ w) - 1) ≡ slice_get (u ∷ w) (length (u ∷ w) - 1)
-last-cons t u w =
-    let outer : length (t ∷ u ∷ w) - 1 ≡ suc (length w) = omega arith in
-    let inner : length (u ∷ w) - 1 ≡ length w = omega arith in
-    ap (slice_get (t ∷ u ∷ w)) outer ∙ ap (slice_get (u ∷ w)) (sym inner)
+last-cons t u w = grind arith
 
 pub last-push : (w : List ℕ) (t : ℕ) → slice_get (w ++ t ∷ []) (length (w ++ t ∷ []) - 1) ≡ Some t
 last-push [] t = refl
@@ -22,8 +18,7 @@ last-push (u ∷ v ∷ w) t = last-cons u v (w ++ t ∷ []) ∙ last-push (v ∷
 -- ---- words joined
 
 and-assoc : (a b c : Bool) → (a && (b && c)) ≡ ((a && b) && c)
-and-assoc true b c = refl
-and-assoc false b c = refl
+and-assoc a b c = grind arith
 
 -- a word and then others behind one more turn
 pub is_orderly-behind : (w : List ℕ) (t : ℕ) (v : List ℕ)
@@ -31,12 +26,7 @@ pub is_orderly-behind : (w : List ℕ) (t : ℕ) (v : List ℕ)
 unfolding is_orderly may_end
 is_orderly-behind [] t v = refl
 is_orderly-behind (u ∷ []) t v = refl
-is_orderly-behind (u ∷ x ∷ w) t v =
-    let rest = is_orderly (t ∷ v) in
-    ap (λ b. may_precede u x && b) (is_orderly-behind (x ∷ w) t v)
-    ∙ and-assoc (may_precede u x) (is_orderly (x ∷ w) && may_end (x ∷ w) t) rest
-    ∙ ap (λ b. b && rest) (and-assoc (may_precede u x) (is_orderly (x ∷ w)) (may_end (x ∷ w) t)
-    ∙ ap (λ o. (may_precede u x && is_orderly (x ∷ w)) && option_map_or (λ y. may_precede y t) o true) (sym (last-cons u x w)))
+is_orderly-behind (u ∷ x ∷ w) t v = grind (arith, and-assoc, last-cons, is_orderly-behind (x ∷ w) t v)
 
 -- so a turn that may stand behind a word makes an orderly word of it
 pub is_orderly-push : (w : List ℕ) (t : ℕ) → is_orderly w ≡ true → may_end w t ≡ true → is_orderly (w ++ t ∷ []) ≡ true
@@ -45,6 +35,4 @@ is_orderly-push w t h e = is_orderly-behind w t [] ∙ ap (λ b. b && (true && t
 
 -- and a turn of an orderly word may stand behind the turns before it
 pub may_end-orderly : (w : List ℕ) (t : ℕ) (v : List ℕ) → is_orderly (w ++ t ∷ v) ≡ true → may_end w t ≡ true
-may_end-orderly w t v h =
-    let parts = and_parts (is_orderly w && may_end w t) (is_orderly (t ∷ v)) (sym (is_orderly-behind w t v) ∙ h) in
-    (and_parts (is_orderly w) (may_end w t) parts.0).1
+may_end-orderly w t v h = grind (arith, and_parts, is_orderly-behind)

@@ -11,30 +11,23 @@ take-append : {X : Type 0} (n : ℕ) (xs ys : List X) → take n (xs ++ ys) ≡ 
 take-append zero [] ys = refl
 take-append (suc n) [] ys = let all : suc n ≡ suc n - 0 = omega arith in ap (λ m. take m ys) all
 take-append zero (x ∷ xs) ys = let none : 0 - suc (length xs) ≡ 0 = omega arith in ap (λ m. take m ys) (sym none)
-take-append (suc n) (x ∷ xs) ys =
-    let rest : n - length xs ≡ suc n - suc (length xs) = omega arith in
-    ap (λ zs. x ∷ zs) (take-append n xs ys ∙ ap (λ m. take n xs ++ take m ys) rest)
+take-append (suc n) (x ∷ xs) ys = grind (arith, take-append n xs ys)
 
 first-append : {X : Type 0} (xs ys : List X) → slice_get (xs ++ ys) 0 ≡ option_or (slice_get xs 0) (slice_get ys 0)
 first-append [] ys = refl
 first-append (x ∷ xs) ys = refl
 
 first-option : {X : Type 0} (o : Option X) (xs : List X) → xs ≡ [] → slice_get (cons_option o xs) 0 ≡ o
-first-option None xs e = ap (λ ys. slice_get ys 0) e
-first-option (Some x) xs e = refl
+first-option o xs h0 = grind arith
 
 none-given : (gives : List ℕ → Option (List ℕ)) (tries : ℕ) → filter_map gives (take tries []) ≡ []
-none-given gives zero = refl
-none-given gives (suc tries) = refl
+none-given gives tries = grind arith
 
 -- some words, and then others with the tries that are left
 first_given-append : (gives : List ℕ → Option (List ℕ)) (tries : ℕ) (some others : List (List ℕ))
     → first_given gives tries (some ++ others) ≡ option_or (first_given gives tries some) (first_given gives (tries - length some) others)
 unfolding first_given
-first_given-append gives tries some others =
-    ap (λ ps. slice_get (filter_map gives ps) 0) (take-append tries some others)
-    ∙ ap (λ ws. slice_get ws 0) (filter_map-append gives (take tries some) (take (tries - length some) others))
-    ∙ first-append (filter_map gives (take tries some)) (filter_map gives (take (tries - length some) others))
+first_given-append gives tries some others = grind (arith, take-append, filter_map-append, first-append)
 
 module _ {gives : List ℕ → Option (List ℕ)} where
   -- no word is looked at once all tries are made, and of no words none gives anything
@@ -57,14 +50,7 @@ module _ {gives : List ℕ → Option (List ℕ)} where
       → 0 < tries → gives word ≡ cond found (Some after) None → (found ≡ false → after ≡ word) → left ≡ tries - 1
       → IsSearched gives words tries word found after left
   unfolding first_given
-  IsSearched-one {words} {tries} {left} {word} e some given same tried =
-      let more : tries ≡ suc (tries - 1) = omega arith in
-      record {
-        given = ap (first_given gives tries) e ∙ ap (λ n. first_given gives n (word ∷ [])) more
-            ∙ first-option (gives word) (filter_map gives (take (tries - 1) [])) (none-given gives (tries - 1)) ∙ given;
-        same = same;
-        tried = λ f. omega (arith, ap length e);
-      }
+  IsSearched-one {words} {tries} {left} {word} e some given same tried = grind (arith, first-option, none-given)
 
 -- Of all words, of which so many are tried, those by some keys are left to try, and so many tries.
 pub record IsLeft (gives : List ℕ → Option (List ℕ)) (all : List (List ℕ)) (tries : ℕ) (by : ℕ → List (List ℕ)) (keys : List ℕ) (left : ℕ) : Type 0 where
@@ -82,9 +68,7 @@ module _ {gives : List ℕ → Option (List ℕ)} {all : List (List ℕ)} {tries
 
     first : {now : ℕ} {before after : List ℕ} (found : Bool) → IsSearched gives some left before found after now
         → first_given gives tries all ≡ option_or (cond found (Some after) None) (first_given gives (left - length some) (flat_map by others))
-    first found s =
-        h.given ∙ ap (first_given gives left) parts ∙ first_given-append gives left some (flat_map by others)
-        ∙ ap (λ o. option_or o (first_given gives (left - length some) (flat_map by others))) s.given
+    first found s = grind (arith, parts, first_given-append)
 
     -- those by the first key were tried, and none of them gave anything
     pub IsLeft-passed : {now : ℕ} {before after : List ℕ} → IsSearched gives some left before false after now → IsLeft gives all tries by others now

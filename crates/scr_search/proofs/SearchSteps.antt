@@ -54,11 +54,7 @@ turns_in-below bits n small none =
     ]
 
 pub below_count : (bits n place : ℕ) → bits < 2 ^ n → contains_turn bits place ≡ true → place < n
-below_count bits n place small is =
-    elim (cases_lt place n) [
-      | inl below ↦ below
-      | inr above ↦ absurd (false≢true (sym (ap (λ b. b == 1) (bit_at_above bits n place small above)) ∙ is))
-    ]
+below_count bits n place small is = grind (arith, cases_lt, false≢true, bit_at_above)
 
 -- what is below a limit at each place of a list is so at any number
 pub any_place : (limit : ℕ) (xs : List ℕ) (k : ℕ) → 0 < limit → All (λ x. x < limit) xs → get_or xs k 0 < limit
@@ -71,21 +67,14 @@ any_place limit (x ∷ xs) (suc k) some h = any_place limit xs k some (All-tail 
 whole-parts : (v : Views) (c : CubeState) (word : List ℕ) → is_whole v c word ≡ true
     → (is_orderly word ≡ true) × (ends_with v.is_last word ≡ true) × (leads v.ends c word ≡ true)
 unfolding is_whole
-whole-parts v c word e =
-    let parts = and_parts (is_orderly word && ends_with v.is_last word) (leads v.ends c word) e in
-    let first = and_parts (is_orderly word) (ends_with v.is_last word) parts.0 in
-    (first.0, first.1, parts.1)
+whole-parts v c word e = grind arith
 
 -- a word that may be the last is whole where it leads to an end
 pub whole-at : {v : Views} {c : CubeState} {word : List ℕ} {at : PartPosition} (h : IsAt v c word at) (b : Bool)
     → ends_with v.is_last word ≡ true → v.ends h.there ≡ b
     → words_behind v.turns (is_whole v c) word 0 ≡ cond b (word ∷ []) []
 unfolding is_whole
-whole-at {v} {c} {word} h b last e =
-    words_behind-end v.turns (is_whole v c) word
-    ∙ ap (λ d. cond ((d && ends_with v.is_last word) && leads v.ends c word) (word ∷ []) []) h.orderly
-    ∙ ap (λ d. cond (d && leads v.ends c word) (word ∷ []) []) last
-    ∙ ap (λ d. cond d (word ∷ []) []) (leads-played v.ends c h.there word h.played ∙ e)
+whole-at {v} {c} {word} h b last e = grind (arith, words_behind-end, leads-played)
 
 -- ---- the turns that keep the ways
 
@@ -163,11 +152,7 @@ words_from v c word most = filter (is_whole v c) (map (λ w. word ++ w) (words_w
 pub words_from-least : (v : Views) (c : CubeState) (word : List ℕ) (most least : ℕ)
     → ((n : ℕ) → n < least → words_behind v.turns (is_whole v c) word n ≡ [])
     → words_from v c word most ≡ flat_map (words_behind v.turns (is_whole v c) word) (numbers_from least (most + 1 - least))
-words_from-least v c word most least none =
-    let test = is_whole v c in
-    let all : most + 1 ≡ most + 1 - 0 = omega arith in
-    words_behind-within v.turns test word most ∙ ap (λ n. flat_map (words_behind v.turns test word) (numbers_from 0 n)) all
-    ∙ lengths_from (words_behind v.turns test word) least (most + 1) none
+words_from-least v c word most least none = grind (arith, words_behind-within, lengths_from)
 
 -- Where a set keeps the ways, these are all of the words.
 pub words_kept : (v : Views) (c : CubeState) (word : List ℕ) (left bits : ℕ) → 0 < left → bits < 2 ^ 18

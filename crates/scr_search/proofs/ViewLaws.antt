@@ -1,11 +1,9 @@
 -- What the tables of a part see of a cube goes along with its turns.
-use Rattle.std.proofs.Common.{◌≡◌, ℕ, ◌+◌, ◌*◌, ◌/◌, ◌%◌, ◌^◌, ◌<◌, Bool, true, false, cond, length, get_or, None, Some, sym, ap, ◌∙◌, subst, arith}
-use Rattle.std.specs.Option.{option_map}
+use Rattle.std.proofs.Common.{◌≡◌, ℕ, ◌+◌, ◌*◌, ◌/◌, ◌%◌, ◌^◌, ◌<◌, Bool, true, false, length, get_or, Some, sym, ap, ◌∙◌, arith}
 use Rattle.std.proofs.lemmas.Bool.{lt-ltb}
-use Rattle.std.proofs.lemmas.Nat.{mul-add-lt}
-use Rattle.scr_positions.specs.Coordinates.{Coordinate, IsGoal, moved}
+use Rattle.scr_positions.specs.Coordinates.{Coordinate, IsGoal}
 use Rattle.scr_positions.specs.SearchSpaces.{Follows, ShowsSame, positions}
-use Rattle.scr_positions.proofs.ProductLaws.{Follows-product, part-high, part-low}
+use Rattle.scr_positions.proofs.ProductLaws.{Follows-product, part-low}
 use Rattle.scr_cube.specs.Cube333.{CubeState}
 use Rattle.scr_cube.specs.ListedTurns.{cube_space, after_of}
 use Rattle.scr_search.specs.declared.position.Extent.{Extent}
@@ -48,13 +46,7 @@ module _ (v : Views) (view : View) (s : Sees v view) where
   pub shown-turned : (moves : Coordinate) → ShowsSame view.coordinate moves → (c d : CubeState) (p place : ℕ)
       → v.IsSeen c → p ≡ view.number c → place < length v.turns → after_turn c (get_or v.turns place 0) ≡ Some d
       → moves.after p place ≡ Some (view.number d)
-  shown-turned moves same c d p place h at lt to =
-      let seen = view.coordinate in
-      let here : p < seen.count = subst (λ k. k < seen.count) (sym at) (s.along.valid c h) in
-      let turn : place < seen.turns = omega (arith, lt, s.turns) in
-      let guarded : moved seen p place ≡ seen.after p place = ap (λ b. cond b (seen.after p place) None) (lt-ltb place seen.turns turn) in
-      same.after p place here turn ∙ sym guarded ∙ ap (λ k. moved seen k place) at ∙ s.along.turned c place h
-      ∙ ap (option_map view.number) (after_of-place v.turns c place lt ∙ to)
+  shown-turned moves same c d p place h at lt to = grind (arith, lt-ltb, after_of-place)
 
 -- ---- numbers
 
@@ -67,12 +59,7 @@ module _ (v : Views) (e : Extent) (are : AreViews v e) (c : CubeState) (h : v.Is
   low_part-lt =
       let few : v.one.coordinate.count * v.other.coordinate.count ≡ e.ones * e.others =
       ap (λ k. k * v.other.coordinate.count) are.counts.0 ∙ ap (λ k. e.ones * k) are.counts.1 in
-      omega (
-        arith,
-        are.block.1,
-        few,
-        mul-add-lt (v.other.number c) v.one.coordinate.count (v.one.number c) v.other.coordinate.count (are.other.along.valid c h) (are.one.along.valid c h),
-      )
+      grind arith
 
   pub number-low : part_number v c % 2 ^ 32 ≡ low_part
   number-low = let few = low_part-lt in omega (arith, few)
@@ -84,33 +71,22 @@ module _ (v : Views) (e : Extent) (are : AreViews v e) (c : CubeState) (h : v.Is
   block-lt = omega (arith, number-block, are.middle.along.valid c h, are.counts.2)
 
   pub low-one : (k : ℕ) → k ≡ low_part → k % e.ones ≡ v.one.number c
-  low-one k is =
-      ap (λ n. n % e.ones) is ∙ ap (λ n. low_part % n) (sym are.counts.0)
-      ∙ part-low v.one.coordinate.count (v.one.number c) (v.other.number c) (are.one.along.valid c h)
+  low-one k is = grind (arith, part-low)
 
   pub low-other : (k : ℕ) → k ≡ low_part → k / e.ones ≡ v.other.number c
-  low-other k is =
-      ap (λ n. n / e.ones) is ∙ ap (λ n. low_part / n) (sym are.counts.0)
-      ∙ part-high v.one.coordinate.count (v.one.number c) (v.other.number c) (are.one.along.valid c h)
+  low-other k is = grind arith
 
   -- as it is made of both
   pub low-made : (one other : ℕ) → one ≡ v.one.number c → other ≡ v.other.number c
       → (other * e.ones % 2 ^ 32 + one) % 2 ^ 32 ≡ low_part
-  low-made one other a b =
-      let few = low_part-lt in
-      let times : other * e.ones ≡ v.one.coordinate.count * v.other.number c =
-      ap (λ k. k * e.ones) b ∙ ap (λ k. v.other.number c * k) (sym are.counts.0) ∙ omega arith in
-      omega (arith, few, times, a)
+  low-made one other a b = grind (arith, low_part-lt)
 
 -- ---- positions in pruning tables
 
 index-shown : (b : Bool) (own middle : View) (c : CubeState) (owns middles i j k : ℕ) → own.coordinate.count ≡ owns
     → middle.coordinate.count ≡ middles → i ≡ own.number c → j ≡ middle.number c → k ≡ index_beside b owns middles i j
     → k ≡ (view_beside b own middle).number c
-index-shown b own middle c owns middles i j k few few_middle one other is =
-    is ∙ ap (λ n. index_beside b n middles i j) (sym few) ∙ ap (λ n. index_beside b own.coordinate.count n i j) (sym few_middle)
-    ∙ ap (λ n. index_beside b own.coordinate.count middle.coordinate.count n j) one
-    ∙ ap (index_beside b own.coordinate.count middle.coordinate.count (own.number c)) other
+index-shown b own middle c owns middles i j k few few_middle one other is = grind arith
 
 module _ {v : Views} {e : Extent} (are : AreViews v e) {c : CubeState} {at : PartPosition} (h : Shows v c at) where
   pub one-shown : (k : ℕ) → k ≡ index_beside e.middle_first e.ones e.middles at.one at.middle

@@ -173,11 +173,6 @@ made-more {settings = settings} {rest = rest} {part = part} made done = record {
   gained = Gains-append made.gained done.gained;
 }
 
--- nothing is left
-pub made-all : {settings : Settings} {parts : List Part} {k : ℕ} {out : Change} → IsMadeUpTo settings parts [] k out
-    → IsWhole settings parts out
-made-all {settings = settings} made = grind (arith, done-whole, append-nil)
-
 -- leading parts behind others
 IsLed-behind : {settings : Settings} {parts more : List Part} {k : ℕ} {out : Change} {Is Is' : List ℕ → Type 0} {Leaves Leaves' : ℕ → List Part → Type 0}
     (rest : List Part) (made : IsMadeUpTo settings parts (more ++ rest) k out) → ((text : List ℕ) → Is text → Is' (made.text ++ text))

@@ -1,5 +1,5 @@
 -- The lines that a list's sheet has: each text has one answer at each, and which round a line is of.
-use Rattle.std.proofs.Common.{◌≡◌, ℕ, ◌+◌, ◌-◌, ◌*◌, ◌<◌, ◌≤◌, Bool, true, false, List, [], ◌∷◌, ◌++◌, length, drop, get_or, Some, Ok, Err, refl, sym, ap, ◌∙◌, subst, arith, length-append, drop-cons, add-one}
+use Rattle.std.proofs.Common.{◌≡◌, ℕ, ◌+◌, ◌-◌, ◌*◌, ◌<◌, ◌≤◌, Bool, true, List, [], ◌∷◌, ◌++◌, length, drop, get_or, Some, Ok, Err, refl, sym, ap, ◌∙◌, subst, arith, length-append, drop-cons, add-one}
 use Rattle.std.specs.Prelude.{Result, map, slice_get}
 use Rattle.std.specs.List.{IsSplitAt}
 use Rattle.std.specs.Option.{option_map}
@@ -153,9 +153,6 @@ left-found rounds line i left count round is below size here it =
           ∙ slice_get-map f (round_lines i round) left ∙ ap (option_map f) own_there;
     }
 
-pub left-none : (rounds : List Round) (line i left : ℕ) → length rounds ≤ i → IsLeft rounds line i left → ⊥
-left-none rounds line i left past it = let none = lines-none rounds i past in let below = it.below in omega (arith, none, below)
-
 -- ---- labels
 
 -- a text that is cut behind as many bytes as a label has begins with it where the front is the label
@@ -177,10 +174,3 @@ pub slot-judged : (settings : Settings) (k : ℕ) (round : Round) (label : List 
     → IsJudged (scrambling_of round.event) settings round.least (first_stream k + slot) behind (Some told)
     → IsLineAnswer settings k round (Slot label slot) text (Ok told)
 slot-judged settings k round label slot text behind told is judged = grind (arith, cancelled)
-
--- and without the label nothing agrees
-pub slot-unlabelled : (settings : Settings) (k : ℕ) (round : Round) (label : List ℕ) (slot : ℕ) (text other : List ℕ) (told : Bool)
-    → ((behind : List ℕ) → text ≡ label ++ behind → ⊥)
-    → IsJudged (scrambling_of round.event) settings round.least (first_stream k + slot) other (Some told)
-    → IsLineAnswer settings k round (Slot label slot) text (Ok false)
-slot-unlabelled settings k round label slot text other told none judged = (judged.0, (λ agrees. cc, λ it. absurd (none it.behind it.is)))

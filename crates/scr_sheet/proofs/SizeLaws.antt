@@ -1,5 +1,5 @@
 -- Rounds that are made one after another and counted.
-use Rattle.std.proofs.Common.{◌≡◌, ℕ, ◌+◌, ◌<◌, List, [], ◌∷◌, ◌++◌, length, drop, get_or, Ok, Err, refl, sym, ap, ◌∙◌, append_assoc, append-nil, length-append, arith}
+use Rattle.std.proofs.Common.{◌≡◌, ℕ, ◌+◌, ◌<◌, List, [], ◌∷◌, ◌++◌, length, drop, get_or, Err, refl, sym, ap, ◌∙◌, append_assoc, append-nil, length-append, arith}
 use Rattle.std.proofs.lemmas.List.Sums.{sum_by-append}
 use Rattle.std.specs.Prelude.{Some}
 use Rattle.scr_outside.proofs.ChangeLemmas.{from_to, Gains-nothing}
@@ -11,7 +11,7 @@ use Rattle.scr_sheet.specs.declared.load.Size.{Size}
 use Rattle.scr_sheet.specs.Sheet.{Part, IsPartText, round_part, round_parts}
 use Rattle.scr_sheet.specs.Outcome.{IsStopped, gaining}
 use Rattle.scr_sheet.specs.Sizes.{IsSizeOf, IsPartSize, SizesParts}
-use Rattle.scr_sheet.proofs.PartLaws.{IsDone, done-whole, IsMadeUpTo, IsText-one, made-none, made-all, round-more, round-fault, first-stopped}
+use Rattle.scr_sheet.proofs.PartLaws.{IsDone, done-whole, IsMadeUpTo, IsText-one, made-none, round-more, round-fault, first-stopped}
 
 -- two sizes together
 abbrev pub with_more : Size → Size → Size
@@ -63,11 +63,6 @@ sized-fault rounds i round is missing there sized stopped = record {
       (first-stopped i missing stopped Gains-nothing);
   amounts = tt;
 }
-
--- no round is left
-pub sized-all : {settings : Settings} {parts : List Part} {k : ℕ} {size : Size} → IsSizedUpTo settings parts [] k size
-    → SizesParts settings parts (Ok size)
-sized-all sized = record { sheet = sized.sheet; ends = made-all sized.made; amounts = sized.amounts }
 
 -- ---- lines that are counted one after another
 

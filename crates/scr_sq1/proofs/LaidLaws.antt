@@ -66,12 +66,6 @@ occurrences-laid p =
 
 -- ---- what is read of them
 
-corner_is : (c : ℕ) → c < 8 → is_corner c ≡ true
-corner_is c lt = lt-ltb c 8 lt
-
-edge_is : (e : ℕ) → is_corner (8 + e) ≡ false
-edge_is e = le-ltb (8 + e) 8 (omega arith)
-
 -- every second element, from the first one on
 abbrev pub every_second : List ℕ → List ℕ
 every_second [] = []

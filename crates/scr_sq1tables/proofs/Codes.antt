@@ -1,6 +1,6 @@
 -- Mates: where they stand is a pairing of the places, which moves of the pieces carry along. Lists of pieces in which
 -- mates stand opposite to each other, by their codes: what is so of each code is computed over all of them.
-use Rattle.std.proofs.Common.{◌≡◌, ℕ, suc, ◌<◌, eqb, true, false, inl, inr, cond, List, [], ◌∷◌, map, slice_index, refl, sym, ap, ◌∙◌, arith, eq-eqb, ltb-true, zero, ◌+◌, ◌*◌, ◌/◌, ◌%◌, length, subst, lit<}
+use Rattle.std.proofs.Common.{◌≡◌, ℕ, suc, ◌<◌, eqb, true, false, cond, List, [], ◌∷◌, map, slice_index, refl, sym, ap, ◌∙◌, arith, eq-eqb, ltb-true, ◌+◌, ◌*◌, ◌/◌, ◌%◌, length, subst, lit<}
 use Rattle.std.specs.Prelude.{◌==◌, nat_lt, All}
 use Rattle.std.proofs.lemmas.Bool.{cases_eq, ne_eqb, false≢true, cond-true}
 use Rattle.std.proofs.lemmas.List.{length-map, get_or-map}
@@ -41,13 +41,7 @@ module _ (n : ℕ) (xs : List ℕ) (p : IsPermutation n xs) where
 
   -- whether a piece stands at a place is whether the place is that of the piece
   same_place : (v k : ℕ) → v < n → k < n → eqb (slice_index xs k) v ≡ eqb k (place_of v xs)
-  same_place v k lv lk =
-      elim (cases_eq k (place_of v xs)) [
-        | inl same ↦
-            eq-eqb (slice_index xs k) v (ap (λ i. slice_index xs i) same ∙ at-place v lv) ∙ sym (eq-eqb k (place_of v xs) same)
-        | inr apart ↦
-            ne_eqb (slice_index xs k) v (λ e. apart (sym (place-at k lk) ∙ ap (λ w. place_of w xs) e)) ∙ sym (ne_eqb k (place_of v xs) apart)
-      ]
+  same_place v k lv lk = grind (arith, cases_eq, eq-eqb, at-place, ne_eqb, place-at)
 
   -- where a piece stands when the pieces are moved
   place_of-pick : (v : ℕ) (ks : List ℕ) → v < n → All (λ k. k < n) ks
@@ -72,8 +66,7 @@ module _ (ps xs : List ℕ) (h : IsPairing 8 ps) (p : IsPermutation 8 xs) where
 
   -- the partner of what comes to a place comes to the place's partner
   partner-at : (k : ℕ) → k < 8 → slice_index xs (slice_index (carried_pairing ps xs) k) ≡ slice_index ps (slice_index xs k)
-  partner-at k lt =
-      ap (λ i. slice_index xs i) (carried-at k lt) ∙ at-place 8 xs p (slice_index ps (slice_index xs k)) (partner-below k lt)
+  partner-at k lt = grind (arith, carried-at, at-place, partner-below)
 
   pub IsPairing-carried : IsPairing 8 (carried_pairing ps xs)
   unfolding carried_pairing
@@ -192,14 +185,7 @@ pub code-lt : (xs : List ℕ) → IsPermutation 8 xs → code_number xs < 384
 unfolding code_number bits_number pairs_number
 code-lt xs p =
     let larger = λ (k : ℕ) (lt : k < 8). larger-lt (slice_index xs k) (at-permutation 8 xs p k lt) in
-    omega (
-      arith,
-      larger 0 (lit< tt),
-      larger 1 (lit< tt),
-      larger 4 (lit< tt),
-      larger 5 (lit< tt),
-      permutation_number-lt (pick pair_of (pick xs smaller)),
-    )
+    grind (arith, permutation_number-lt (pick pair_of (pick xs smaller)))
 
 -- ---- all lists
 
@@ -209,13 +195,7 @@ filled a b c d = a ∷ b ∷ mate a ∷ mate b ∷ c ∷ d ∷ mate c ∷ mate d
 
 filled-of : (xs : List ℕ) → IsPermutation 8 xs → ((k : ℕ) → k < 8 → slice_index xs (mate k) ≡ mate (slice_index xs k))
     → filled (slice_index xs 0) (slice_index xs 1) (slice_index xs 4) (slice_index xs 5) ≡ xs
-filled-of xs p m =
-    let third : slice_index xs 2 ≡ mate (slice_index xs 0) = m 0 (lit< tt) in
-    let fourth : slice_index xs 3 ≡ mate (slice_index xs 1) = m 1 (lit< tt) in
-    let seventh : slice_index xs 6 ≡ mate (slice_index xs 4) = m 4 (lit< tt) in
-    let eighth : slice_index xs 7 ≡ mate (slice_index xs 5) = m 5 (lit< tt) in
-    let same : filled (slice_index xs 0) (slice_index xs 1) (slice_index xs 4) (slice_index xs 5) ≡ pick xs (numbers_from 0 8) = cc in
-    same ∙ pick-order xs p
+filled-of xs p m = grind (arith, pick-order)
 
 -- the list of the code of a permutation, and a list that is none
 abbrev list_again : List ℕ → List ℕ
@@ -276,11 +256,7 @@ abbrev pub bits_of : ℕ → List ℕ
 bits_of b = b % 2 ∷ b / 2 % 2 ∷ b / 2 / 2 % 2 ∷ b / 2 / 2 / 2 % 2 ∷ []
 
 pub turned-lt : (b k : ℕ) → slice_index (bits_of b) k < 2
-turned-lt b zero = omega arith
-turned-lt b (suc zero) = omega arith
-turned-lt b (suc (suc zero)) = omega arith
-turned-lt b (suc (suc (suc zero))) = omega arith
-turned-lt b (suc (suc (suc (suc k)))) = omega arith
+turned-lt b k = grind arith
 
 pub pieces-are : (code : ℕ) (standing pieces : List ℕ) → standing ≡ permutation_at 4 (code / 16) → length pieces ≡ 8
     → ((k : ℕ) → k < 8 → slice_index pieces k ≡ slice_index smaller (slice_index standing (slice_index pair_of k))

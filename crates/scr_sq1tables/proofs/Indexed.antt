@@ -1,7 +1,7 @@
 -- States by an index: where words do the same to the indexes of states that have one index, a search finds the same on
 -- the indexes as on the states.
 use Rattle.std.proofs.Common.{◌≡◌, ℕ, ◌+◌, ◌<◌, Bool, true, false, IsTrue, inl, inr, cond, List, take, Option, Some, None, refl, sym, ap, ◌∙◌, subst, arith, eq-eqb, eqb-true, ltb-true}
-use Rattle.std.specs.Prelude.{◌↔◌, ◌||◌, nat_lt, slice_index_or}
+use Rattle.std.specs.Prelude.{◌↔◌, nat_lt, slice_index_or}
 use Rattle.std.specs.List.{list_any}
 use Rattle.std.specs.Option.{option_map}
 use Rattle.std.proofs.lemmas.Bool.{false≢true}
@@ -33,8 +33,7 @@ module _ (test : ℕ → Bool) (n : ℕ) where
   pub none-more : (k : ℕ) → k < n → list_any test (take k (numbers_from 0 n)) ≡ false → test k ≡ false
       → list_any test (take (k + 1) (numbers_from 0 n)) ≡ false
   none-more k lt before here =
-      list_any_more test (numbers_from 0 n) k 0 (omega (arith, lt, length-numbers_from 0 n))
-      ∙ ap (λ b. b || test (slice_index_or (numbers_from 0 n) k 0)) before ∙ ap test (number-at k lt) ∙ here
+      cc (list_any_more test (numbers_from 0 n) k 0 (omega (arith, lt, length-numbers_from 0 n)), number-at k lt)
 
   pub some-one : (k : ℕ) → k < n → IsTrue (test k) → list_any test (numbers_from 0 n) ≡ true
   some-one k lt passes =
@@ -43,9 +42,7 @@ module _ (test : ℕ → Bool) (n : ℕ) where
   one-below : IsTrue (list_any test (numbers_from 0 n)) → (k : ℕ) × (k < n) × IsTrue (test k)
   one-below t =
       let any = Any-from_list_any test (numbers_from 0 n) t in
-      let lt : any.0 < n = omega (arith, any.2, length-numbers_from 0 n) in
-      let same : any.0 ≡ any.1 = sym (number-at any.0 lt) ∙ get_or_default (numbers_from 0 n) any.0 0 any.1 any.2 ∙ any.3 in
-      (any.0, lt, ap test same ∙ any.4)
+      grind (arith, length-numbers_from 0 n, number-at, get_or_default (numbers_from 0 n) any.0 0 any.1 any.2)
 
 -- ---- stages of one letter at most
 
@@ -108,12 +105,10 @@ module _ {IsValid : Sq1State → Type 0} {count : ℕ} {index_of : Sq1State → 
   -- words from the state that stands for a state's index
   alike_at : (s : Sq1State) (w : List Turn) → IsValid s
       → option_map index_of (play sq1_after (state_at (index_of s)) w) ≡ option_map index_of (play sq1_after s w)
-  alike_at s w v =
-      let lt = h.below s v in h.alike (state_at (index_of s)) s w (h.valid (index_of s) lt) v (h.again (index_of s) lt)
+  alike_at s w v = grind arith
 
   kept : (s r : Sq1State) (n : ℕ) → IsValid s → lettered s n ≡ Some r → IsValid r
-  kept s r n v e =
-      let parts = by_letters-parts sq1_after stage.letters stage.letter s r n e in h.kept s r n v (ltb-true n stage.letters parts.0) parts.1
+  kept s r n v e = grind (arith, by_letters-parts, ltb-true)
 
   abbrev numbered : Numbered Sq1State
   numbered = record { count = count; state_at = state_at; number_of = index_of; IsValid = IsValid }
@@ -142,6 +137,4 @@ module _ {IsValid : Sq1State → Type 0} {count : ℕ} {index_of : Sq1State → 
 
   -- letters lead from indexes to indexes
   pub StaysBelow-index : StaysBelow (lettered_coordinate numbered stage next)
-  StaysBelow-index =
-      StaysBelow-indexed numbered stage.letters lettered ((lettered_coordinate numbered stage next).is_goal) h.valid h.below
-      (λ s r t v lt e. kept s r t v e)
+  StaysBelow-index = grind (arith, StaysBelow-indexed, kept)

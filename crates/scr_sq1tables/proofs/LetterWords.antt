@@ -1,7 +1,7 @@
 -- Letters as words: how they are put together turn by turn.
-use Rattle.std.proofs.Common.{◌≡◌, ℕ, ◌+◌, ◌*◌, ◌/◌, ◌%◌, ◌-◌, ◌<◌, ◌≤◌, Bool, true, false, cond, List, [], ◌∷◌, ◌++◌, length, take, slice_index, refl, sym, ap, ap₂, ◌∙◌, arith, eqb, eq-eqb, ne_eqb}
+use Rattle.std.proofs.Common.{◌≡◌, ℕ, ◌+◌, ◌*◌, ◌/◌, ◌%◌, ◌-◌, ◌<◌, ◌≤◌, Bool, true, false, cond, List, [], ◌∷◌, ◌++◌, length, take, slice_index, refl, sym, ap, ap₂, ◌∙◌, arith, eqb, eq-eqb}
 use Rattle.std.specs.Prelude.{ℤ, pos, ◌+ℤ◌, ◌-ℤ◌, ◌==◌, map}
-use Rattle.std.proofs.lemmas.Bool.{cond-true, cond-false}
+use Rattle.std.proofs.lemmas.Bool.{cond-true}
 use Rattle.std.proofs.lemmas.Bool.Decides.{nat_tests}
 use Rattle.std.proofs.lemmas.Grind.{common_steps}
 use Rattle.std.proofs.lemmas.Int.{ints}
@@ -14,7 +14,6 @@ use Rattle.scr_notation.specs.Event.{kind_of}
 use Rattle.scr_notation.specs.Layers.{twelfths, are_still}
 use Rattle.scr_notation.specs.TurnNumbers.{layer_turn_at, turn_at}
 use Rattle.scr_notation.specs.Written.{Written}
-use Rattle.scr_notation.proofs.LayersLaws.{twelfths-only}
 use Rattle.scr_sq1tables.specs.Stages.{turn_word}
 use Rattle.scr_sq1tables.specs.Letters.{layers_word}
 
@@ -47,13 +46,7 @@ layers_word-at i j x y l m top bottom =
 -- the place of an amount among the twelve, with so many whole turns more on either side
 pub place_at : (z : ℤ) (i turns more : ℕ) → i < 12 → z +ℤ pos (12 * turns) ≡ (pos i -ℤ pos 5) +ℤ pos (12 * more)
     → twelfths z ≡ pos i -ℤ pos 5
-place_at z i turns more l same =
-    twelfths-only z (pos i -ℤ pos 5) (record {
-      turns = turns;
-      turns_more = more;
-      same = same;
-      within = record { low = omega (arith, ints); high = omega (arith, ints) };
-    })
+place_at z i turns more l same = grind arith
 
 -- so many twelfths clockwise, one less, and one more
 pub place_on : (m : ℕ) → twelfths (pos m) ≡ pos ((m + 5) % 12) -ℤ pos 5
@@ -74,25 +67,17 @@ written turns = record { event = Sq1; turns = turns }
 pub first-written : (v w : Written) (n : ℕ) → v.event ≡ Sq1 → (n ≡ 65 → ⊥)
     → w ≡ record { event = v.event; turns = v.turns ++ turn_at (kind_of v.event) n ∷ [] } → w ≡ written (v.turns ++ layers_word n)
 unfolding turn_at
-first-written v w n event other made =
-    let one : layers_word n ≡ layer_turn_at n ∷ [] = cond-false (n == 65) _ _ (ne_eqb n 65 other) in
-    made ∙ ap (λ e. record { event = e; turns = v.turns ++ turn_at (kind_of e) n ∷ [] }) event
-    ∙ ap (λ more. written (v.turns ++ more)) (sym one)
+first-written v w n event other made = grind arith
 
 pub first-left_out : (v w : Written) (n : ℕ) → v.event ≡ Sq1 → n ≡ 65 → w ≡ v → w ≡ written (v.turns ++ layers_word n)
-first-left_out v w n event none same =
-    let no_turn : layers_word n ≡ [] = cond-true (n == 65) _ _ (eq-eqb n 65 none) in
-    same ∙ ap (λ e. record { event = e; turns = v.turns }) event
-    ∙ ap written (sym (append-nil v.turns) ∙ ap (λ more. v.turns ++ more) (sym no_turn))
+first-left_out v w n event none same = grind (arith, cond-true, eq-eqb, append-nil)
 
 -- and the later ones
 pub letter-written : (v w : Written) (first later letter : List Turn) (numbers : List ℕ) → v ≡ written (first ++ later)
     → w ≡ record { event = v.event; turns = v.turns ++ map (turn_at (kind_of v.event)) numbers } → letter ≡ later ++ turns numbers
     → w ≡ written (first ++ letter)
 unfolding turn_at
-letter-written v w first later letter numbers is made spelled =
-    made ∙ ap (λ (u : Written). record { event = u.event; turns = u.turns ++ map (turn_at (kind_of u.event)) numbers }) is
-    ∙ ap written (append_assoc first later (turns numbers) ∙ ap (λ more. first ++ more) (sym spelled))
+letter-written v w first later letter numbers is made spelled = grind (arith, append_assoc)
 
 pub length-layers_word : (n : ℕ) → length (layers_word n) ≤ 1
 length-layers_word n = grind (arith, nat_tests)

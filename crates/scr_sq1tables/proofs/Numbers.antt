@@ -1,6 +1,6 @@
 -- Lists that are made of the numbers below one, and what is so of each of these numbers, computed over all of them;
 -- lists as coordinates.
-use Rattle.std.proofs.Common.{◌≡◌, ◌≢◌, ℕ, ◌+◌, ◌<◌, List, map, length, slice_index, set, Some, sym, ap, ◌∙◌, subst, arith, get_or-set_other, get_or-set_same, below_more}
+use Rattle.std.proofs.Common.{◌≡◌, ℕ, ◌+◌, ◌<◌, List, map, length, slice_index, set, Some, sym, ap, ◌∙◌, arith, get_or-set_other, get_or-set_same}
 use Rattle.std.specs.Prelude.{All, slice_get, slice_index_or}
 use Rattle.std.proofs.lemmas.List.{ext_get_or, get_or-map, length-map}
 use Rattle.std.proofs.lemmas.Option.{slice_get-get_or}
@@ -29,9 +29,7 @@ module _ {X : Type 0} (f : ℕ → X) (n : ℕ) where
 
   -- what holds of what is made of each of them holds of the whole list
   pub All-each : (P : X → Type 0) → ((k : ℕ) → k < n → P (f k)) → All P (map f (numbers_from 0 n))
-  All-each P each = λ k d lt.
-      let low : k < n = omega (arith, lt, length-each) in
-      subst P (sym (get_or-each k d low)) (each k low)
+  All-each P each = grind (arith, length-each, get_or-each)
 
   -- a list that has it at each place is the list
   pub numbers_all : (out : List X) (d : X) → length out ≡ n → ((k : ℕ) → k < n → slice_index_or out k d ≡ f k)
@@ -57,12 +55,7 @@ at_both f g m n e i k low lt =
 -- one more is filled
 pub filled_more : {A : Type 0} (f : ℕ → A) (out : List A) (n : ℕ) (x d : A) → n < length out → x ≡ f n
     → ((k : ℕ) → k < n → slice_index_or out k d ≡ f k) → (k : ℕ) → k < n + 1 → slice_index_or (set out n x) k d ≡ f k
-filled_more f out n x d lt e so_far =
-    below_more _ _
-    (λ k less.
-    let apart : k ≢ n = λ same. omega (arith, less, same) in
-    get_or-set_other out n k x d apart ∙ so_far k less)
-    (get_or-set_same out n x d lt ∙ e)
+filled_more f out n x d lt e so_far = grind (arith, get_or-set_other, get_or-set_same)
 
 -- ---- lists as coordinates
 

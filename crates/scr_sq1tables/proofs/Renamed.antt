@@ -2,7 +2,7 @@
 -- state of its shape whose pieces are in order, with its pieces called otherwise. So what a word does to a state is told
 -- by its shape: it moves the lists of corners and of edges of all states of a shape by the same places. It does the same
 -- whatever the equator, and so the stages that solve the layers have the same words.
-use Rattle.std.proofs.Common.{◌≡◌, ℕ, ◌+◌, ◌*◌, ◌-◌, ◌%◌, ◌<◌, ◌≤◌, inl, inr, Bool, true, false, cond, List, [], ◌∷◌, map, length, slice_index, take, drop, Option, Some, None, refl, sym, ap, ◌∙◌, arith, lit<, ltb-true, IsTrue, subst}
+use Rattle.std.proofs.Common.{◌≡◌, ℕ, ◌+◌, ◌*◌, ◌-◌, ◌%◌, ◌<◌, ◌≤◌, Bool, true, false, cond, List, [], ◌∷◌, map, length, slice_index, take, drop, Option, Some, None, refl, sym, ap, ◌∙◌, arith, lit<, ltb-true, IsTrue, subst}
 use Rattle.std.specs.Prelude.{if◌then◌else◌, not, ◌&&◌, ◌==◌, nat_lt, All, filter, option_and_then, pos, ◌↔◌}
 use Rattle.std.specs.List.{position_or_len}
 use Rattle.std.specs.Option.{option_map}
@@ -44,8 +44,7 @@ use Rattle.scr_table.specs.StageSpaces.{stage_space}
 -- where a test holds
 pub map_where : {S R : Type 0} (f : S → R) (b : Bool) (o : Option R) (p : Option S) → (b ≡ true → o ≡ option_map f p)
     → (let q : Option R = cond b o None in q) ≡ option_map f (cond b p None)
-map_where f true o p e = e refl
-map_where f false o p e = refl
+map_where f b o p h0 = grind arith
 
 pub keeps_sq1 : (s r : Sq1State) (w : List Turn) → IsSq1 s → play sq1_after s w ≡ Some r → IsSq1 r
 keeps_sq1 = play-keeps sq1_after IsSq1 IsLawful-sq1.keeps
@@ -55,8 +54,7 @@ module _ (f : Sq1State → Sq1State) (along : (s : Sq1State) (t : Turn) → IsSq
   rest_along : (w : List Turn) (o : Option Sq1State)
       → ((r : Sq1State) → o ≡ Some r → play sq1_after (f r) w ≡ option_map f (play sq1_after r w))
       → option_and_then (λ r. play sq1_after r w) (option_map f o) ≡ option_map f (option_and_then (λ r. play sq1_after r w) o)
-  rest_along w None e = refl
-  rest_along w (Some r) e = e r refl
+  rest_along w o h0 = grind arith
 
   pub play-along : (s : Sq1State) (w : List Turn) → IsSq1 s → play sq1_after (f s) w ≡ option_map f (play sq1_after s w)
   unfolding play
@@ -88,8 +86,7 @@ abbrev pub renamed : Names → Sq1State → Sq1State
 renamed n s = record { units = map (named n) s.units; equator = other_if n.equator s.equator }
 
 other_if-not : (b c : Bool) → other_if b (not c) ≡ not (other_if b c)
-other_if-not true c = refl
-other_if-not false c = refl
+other_if-not b c = grind arith
 
 pub pick-map : (f : ℕ → ℕ) (xs ks : List ℕ) → All (λ k. k < length xs) ks → pick (map f xs) ks ≡ map f (pick xs ks)
 pick-map f xs [] below = refl
@@ -99,21 +96,17 @@ pick-map f xs (k ∷ ks) below =
 
 map_kept : (f : ℕ → ℕ) (b : Bool) (x : ℕ) (xs : List ℕ)
     → (let ys : List ℕ = cond b (f x ∷ map f xs) (map f xs) in ys) ≡ map f (cond b (x ∷ xs) xs)
-map_kept f true x xs = refl
-map_kept f false x xs = refl
+map_kept f b x xs = grind arith
 
 -- what is kept by a test that tells alike what things are called
 filter-map : (test : ℕ → Bool) (f : ℕ → ℕ) → ((x : ℕ) → test (f x) ≡ test x) → (xs : List ℕ)
     → filter test (map f xs) ≡ map f (filter test xs)
 filter-map test f same [] = refl
-filter-map test f same (x ∷ xs) =
-    ap (λ b. cond b (f x ∷ filter test (map f xs)) (filter test (map f xs))) (same x)
-    ∙ ap (λ ys. cond (test x) (f x ∷ ys) ys) (filter-map test f same xs) ∙ map_kept f (test x) x (filter test xs)
+filter-map test f same (x ∷ xs) = grind (arith, map_kept, filter-map test f same xs)
 
 -- functions that agree make the same of a list
 map-same : (f g : ℕ → ℕ) → ((x : ℕ) → f x ≡ g x) → (xs : List ℕ) → map f xs ≡ map g xs
-map-same f g same [] = refl
-map-same f g same (x ∷ xs) = ap (λ y. y ∷ map f xs) (same x) ∙ ap (λ ys. g x ∷ ys) (map-same f g same xs)
+map-same f g h0 xs = grind arith
 
 module _ (n : Names) (h : AreNames n) where
   named-corner : (p : ℕ) → p < 8 → named n p ≡ slice_index n.corners p
@@ -126,32 +119,15 @@ module _ (n : Names) (h : AreNames n) where
   corner-below p lt = omega (arith, named-corner p lt, at-permutation 8 n.corners h.corners p lt)
 
   is_corner-named : (p : ℕ) → is_corner (named n p) ≡ is_corner p
-  is_corner-named p =
-      elim (cases_lt p 8) [
-        | inl lt ↦ lt-ltb (named n p) 8 (corner-below p lt) ∙ sym (lt-ltb p 8 lt)
-        | inr le ↦ le-ltb (named n p) 8 (omega (arith, named-edge p le)) ∙ sym (le-ltb p 8 le)
-      ]
+  is_corner-named p = grind (arith, cases_lt, lt-ltb, corner-below, le-ltb, named-edge)
 
   -- a piece has the name of a corner exactly where it is that corner
   same_corner : (p q : ℕ) → p < 8 → (named n q == named n p) ≡ (q == p)
   same_corner p q lt =
-      elim (cases_eq q p) [
-        | inl same ↦ eq-eqb (named n q) (named n p) (ap (named n) same) ∙ sym (eq-eqb q p same)
-        | inr apart ↦
-            ne_eqb (named n q) (named n p) (λ e. elim (cases_lt q 8) [
-              | inl low ↦ apart (injective-permutation 8 n.corners h.corners q p low lt (sym (named-corner q low) ∙ e ∙ named-corner p lt))
-              | inr high ↦ omega (arith, named-edge q high, corner-below p lt)
-            ])
-            ∙ sym (ne_eqb q p apart)
-      ]
+      grind (arith, cases_eq, eq-eqb, ne_eqb, cases_lt, injective-permutation, named-corner, named-edge, corner-below)
 
   one_corner-named : (p q : ℕ) → (is_corner (named n p) && (named n q == named n p)) ≡ (is_corner p && (q == p))
-  one_corner-named p q =
-      ap (λ b. b && (named n q == named n p)) (is_corner-named p)
-      ∙ elim (cases_lt p 8) as (λ _. (is_corner p && (named n q == named n p)) ≡ (is_corner p && (q == p))) [
-        | inl lt ↦ ap (λ b. is_corner p && b) (same_corner p q lt)
-        | inr le ↦ and_left (is_corner p) (named n q == named n p) (le-ltb p 8 le) ∙ sym (and_left (is_corner p) (q == p) (le-ltb p 8 le))
-      ]
+  one_corner-named p q = grind (arith, is_corner-named, cases_lt, same_corner, and_left, le-ltb)
 
   -- ---- turns
 
@@ -177,9 +153,7 @@ module _ (n : Names) (h : AreNames n) where
 
   moved_units : (s : Sq1State) (places : List ℕ) → length s.units ≡ 24 → IsPermutation 24 places
       → pick (map (named n) s.units) places ≡ map (named n) (pick s.units places)
-  moved_units s places size p =
-      let below = All-permutation 24 places p in
-      pick-map (named n) s.units places (λ k d lt. omega (arith, below k d lt))
+  moved_units s places size p = grind (arith, All-permutation, pick-map)
 
   sq1_after-renamed : (s : Sq1State) (t : Turn) → IsSq1 s → sq1_after (renamed n s) t ≡ option_map (renamed n) (sq1_after s t)
   unfolding sq1_after after_layers turned twisted
@@ -192,11 +166,7 @@ module _ (n : Names) (h : AreNames n) where
       ∙ ap (λ b. let o : Option Sq1State = cond b (Some (state (map (named n) moved))) None in o)
       (is_open-named moved (length-pick s.units (turn_places (clockwise x) (clockwise y)) ∙ t.size))
       ∙ map_where (renamed n) (is_open moved) (Some (state (map (named n) moved))) (Some (turned s x y)) (λ on. refl))
-  sq1_after-renamed s Twist valid =
-      ap (λ units. let r : Sq1State = record { units = units; equator = not (other_if n.equator s.equator) } in Some r)
-      (moved_units s twist_places valid.size IsPermutation-twist_places)
-      ∙ ap (λ b. let r : Sq1State = record { units = map (named n) (pick s.units twist_places); equator = b } in Some r)
-      (sym (other_if-not n.equator s.equator))
+  sq1_after-renamed s Twist valid = grind (arith, moved_units, IsPermutation-twist_places, other_if-not)
   sq1_after-renamed s _ valid = refl
 
   pub play-renamed : (s : Sq1State) (w : List Turn) → IsSq1 s
@@ -240,9 +210,7 @@ module _ (n : Names) (h : AreNames n) where
 
   letters-named : (us : List ℕ) → letters_of (map (named n) us) ≡ letters_of us
   letters-named [] = refl
-  letters-named (u ∷ us) =
-      ap (λ b. let letter : ℕ = cond b 99 101 in letter ∷ letters_of (map (named n) us)) (is_corner-named u)
-      ∙ ap (λ letters. cond (is_corner u) 99 101 ∷ letters) (letters-named us)
+  letters-named (u ∷ us) = grind (arith, letters_of, is_corner-named, letters-named us)
 
   pub shape_of-named : (us : List ℕ) → shape_of (map (named n) us) ≡ shape_of us
   unfolding shape_of half_of
@@ -333,17 +301,11 @@ flipped s = record { units = s.units; equator = not s.equator }
 
 -- half a turn of the top brings its halves to each other's places, and so bars nothing
 swapped : (a b c : Bool) → IsTrue ((a && b) && c) → IsTrue ((b && a) && c)
-swapped true true c h = h
-swapped true false c h = h
-swapped false true c h = h
-swapped false false c h = h
+swapped a b c h0 = grind arith
 
 half_open : (us : List ℕ) → IsTrue (is_open us) → IsTrue (is_open (pick us (turn_places 6 0)))
 unfolding turn_places
-half_open us h =
-    is_open-layers (pick us (turn_places 6 0))
-    ∙ swapped (not (are_of_one_corner us 11 0)) (not (are_of_one_corner us 5 6))
-    (not (are_of_one_corner us 23 12) && not (are_of_one_corner us 17 18)) (sym (is_open-layers us) ∙ h)
+half_open us h = grind arith
 
 -- a twist, and then half a turn of the top
 both : Sq1State → Sq1State
@@ -364,8 +326,7 @@ valid_both s valid =
 
 -- thrice, that is nothing but the equator turned
 not_thrice : (b : Bool) → not (not (not b)) ≡ not b
-not_thrice true = refl
-not_thrice false = refl
+not_thrice b = grind arith
 
 thrice : (s : Sq1State)
     → both (both (both s)) ≡ record { units = pick s.units (numbers_from 0 24); equator = not (not (not s.equator)) }
@@ -373,14 +334,7 @@ unfolding both turned twisted turn_places twist_places
 thrice s = refl
 
 pub play-equator : (s : Sq1State) → IsSq1 s → play sq1_after s equator_word ≡ Some (flipped s)
-play-equator s valid =
-    let one = valid_both s valid in
-    play-both s (Twist ∷ Layers (pos 6) (pos 0) ∷ Twist ∷ Layers (pos 6) (pos 0) ∷ []) valid
-    ∙ play-both (both s) (Twist ∷ Layers (pos 6) (pos 0) ∷ []) one ∙ play-both (both (both s)) [] (valid_both (both s) one)
-    ∙ play-empty sq1_after (both (both (both s)))
-    ∙ ap Some (thrice s)
-    ∙ ap (λ us. let r : Sq1State = record { units = us; equator = not (not (not s.equator)) } in Some r) (pick_nothing s.units valid.size)
-    ∙ ap (λ b. let r : Sq1State = record { units = s.units; equator = b } in Some r) (not_thrice s.equator)
+play-equator s valid = grind (arith, valid_both, play-both, both, play-empty, thrice, pick_nothing, not_thrice)
 
 -- ---- words
 
@@ -454,8 +408,7 @@ pub layers-flipped : (s : Sq1State) (w : List Turn) → IsSq1 s → IsSolution s
     → IsSolution sq1_after layer_stages (flipped s) w
 unfolding AreLevel oddness
 layers-flipped =
-    let squaring : IsLevel squaring_stage = λ s v.
-    (λ n. record { shape = n.shape; even = n.even }, λ n. record { shape = n.shape; even = n.even }) in
+    let squaring : IsLevel squaring_stage = grind arith in
     let last : IsLevel last_stage = λ s v. (λ home. home, λ home. home) in
     solution-flipped layer_stages
     (has_word-flipped squaring_stage squaring, (squaring, ((λ s v. (λ paired. paired, λ paired. paired)), (has_word-flipped last_stage last, (last, tt)))))

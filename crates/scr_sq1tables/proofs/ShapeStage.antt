@@ -1,18 +1,17 @@
 -- The first stage: words go along with the index of shape and parity; its letters are played by parts, and so are their
 -- indexes.
-use Rattle.std.proofs.Common.{◌≡◌, ℕ, ◌+◌, ◌*◌, ◌/◌, ◌%◌, ◌<◌, false, List, [], ◌∷◌, Option, Some, None, refl, sym, ap, ◌∙◌, arith, lit<, ◌-◌, Bool, true, cond, ◌++◌}
+use Rattle.std.proofs.Common.{◌≡◌, ℕ, ◌+◌, ◌*◌, ◌/◌, ◌%◌, ◌<◌, false, List, [], ◌∷◌, Option, Some, None, refl, sym, ap, ◌∙◌, arith, lit<, ◌-◌, Bool, cond, ◌++◌}
 use Rattle.std.specs.Prelude.{◌↔◌, ℤ, pos, ◌-ℤ◌, option_and_then, IfSome}
 use Rattle.std.specs.Option.{option_map}
-use Rattle.scr_combinatorics.specs.Digits.{mixed_number, mixed_digits}
+use Rattle.scr_combinatorics.specs.Digits.{mixed_digits}
 use Rattle.scr_combinatorics.specs.Permutations.{IsPermutation, parity, permutation_at}
 use Rattle.scr_combinatorics.specs.Play.{play}
-use Rattle.scr_combinatorics.proofs.Digits.{mixed_digits-mixed_number}
 use Rattle.scr_combinatorics.proofs.OneLetter.{IsEnding}
 use Rattle.scr_combinatorics.proofs.PermutationNumbers.{IsPermutation-at}
 use Rattle.scr_positions.specs.Coordinates.{StaysBelow, Coordinate}
 use Rattle.scr_positions.specs.SearchSpaces.{positions, Follows, ShowsSame}
 use Rattle.scr_notation.specs.declared.turn.Turn.{Turn}
-use Rattle.scr_sq1.specs.Units.{Sq1State, IsSq1, solved_sq1, sq1_after, is_open, turned, after_layers, twisted}
+use Rattle.scr_sq1.specs.Units.{Sq1State, IsSq1, solved_sq1, sq1_after, after_layers, twisted}
 use Rattle.scr_sq1.specs.Shapes.{shape_of, shape_number, shape_at, half_words, half_word, half_of, ways_after, corner_counts}
 use Rattle.scr_sq1.specs.Numbers.{corners_of, edges_of, laid, shape_word, sq1_of_digits}
 use Rattle.scr_sq1.proofs.HalfNumbers.{halves_number, shapes_one_to_one, shape_number-known}
@@ -28,15 +27,14 @@ use Rattle.scr_sq1tables.proofs.Renamed.{renamed, base_of, names_of, AreNames-va
 use Rattle.scr_sq1tables.proofs.Indexed.{IsIndex, Follows-index, StaysBelow-index}
 use mir.Syntax.{w8}
 use mir.Val.{to_z, of_z}
-use Rattle.std.proofs.lemmas.Bool.{cond-true}
 use Rattle.std.proofs.lemmas.Int.{ints}
 use Rattle.scr_combinatorics.specs.Stages.{by_letters}
 use Rattle.scr_combinatorics.proofs.PlayLaws.{play-empty, play-one}
 use Rattle.scr_combinatorics.proofs.StageLaws.{by_letters-played, by_letters-parts}
 use Rattle.scr_positions.proofs.IndexLaws.{StaysBelow-indexed}
 use Rattle.scr_notation.specs.declared.turn.Turn.TheVariants.{Layers, Twist}
-use Rattle.scr_notation.specs.Layers.{twelfths, are_still, is_layer_turn}
-use Rattle.scr_notation.proofs.LayersLaws.{IsTwelfths, twelfths-own, layers_of_parts, are_still-first, are_still-second}
+use Rattle.scr_notation.specs.Layers.{are_still}
+use Rattle.scr_notation.proofs.LayersLaws.{IsTwelfths, twelfths-own, are_still-first}
 use Rattle.scr_sq1.proofs.InHalves.{is_open-valid}
 use Rattle.scr_sq1.proofs.LayersApart.{after_layers-apart}
 use Rattle.scr_sq1tables.specs.Parts.{shape_part, shape_parts_coordinate}
@@ -54,14 +52,13 @@ pub record SameIndex (s r : Sq1State) : Type 0 where
 pub SameIndex-index : (s r : Sq1State) → IsSq1 s → IsSq1 r → shapes_index s ≡ shapes_index r → SameIndex s r
 unfolding shapes_index
 SameIndex-index s r vs vr e =
-    let a = oddness-lt s in
-    let b = oddness-lt r in
-    let number : shape_number (shape_of s.units) ≡ shape_number (shape_of r.units) = omega arith in
-    record {
-      odd = omega arith;
-      shape = sym (shapes_one_to_one.state_again (shape_of s.units) (StatePieces-valid s vs).shape) ∙ ap shape_at number
-          ∙ shapes_one_to_one.state_again (shape_of r.units) (StatePieces-valid r vr).shape;
-    }
+    grind (
+      arith,
+      oddness-lt s,
+      oddness-lt r,
+      shapes_one_to_one.state_again (shape_of s.units) (StatePieces-valid s vs).shape,
+      shapes_one_to_one.state_again (shape_of r.units) (StatePieces-valid r vr).shape,
+    )
 
 -- the index of a state whose pieces are called otherwise, by names that are so odd together
 abbrev index_beside : ℕ → Sq1State → ℕ
@@ -101,11 +98,7 @@ index_state_number i = 2 * 40320 * (5040 * (i % 2) + 40320 * (i / 2))
 
 pub state-of_index : (i : ℕ) → i < 7356 → sq1_of_digits (mixed_digits sq1_bases (index_state_number i)) ≡ shapes_state i
 unfolding shapes_state
-state-of_index i lt =
-    let digits : List ℕ = 0 ∷ 0 ∷ 5040 * (i % 2) ∷ i / 2 ∷ [] in
-    let number : index_state_number i ≡ mixed_number sq1_bases digits = omega arith in
-    ap (λ n. sq1_of_digits (mixed_digits sq1_bases n)) number
-    ∙ ap sq1_of_digits (mixed_digits-mixed_number sq1_bases digits (lit< tt) (omega arith, (omega arith, (omega arith, (omega arith, tt)))))
+state-of_index i lt = grind arith
 
 edges-odd : (odd : ℕ) → odd < 2 → parity (permutation_at 8 (5040 * odd)) ≡ odd
 unfolding permutation_at
@@ -224,35 +217,23 @@ word_by still x y = cond still [] (Layers x y ∷ [])
 module _ (s : Sq1State) (x y : ℤ) (h : IsSq1 s) (top : IsTwelfths x) (bottom : IsTwelfths y) where
   by_still : (b : Bool) → are_still x y ≡ b → play sq1_after s (word_by b x y) ≡ after_layers s x y
   unfolding sq1_after
-  by_still true still =
-      let same : turned s x y ≡ s = turned-still s x y h.size (are_still-first x y still) (are_still-second x y still) in
-      play-empty sq1_after s ∙ ap Some (sym same) ∙ sym (after_layers-open s x y (ap (λ r. is_open r.units) same ∙ is_open-valid s h))
-  by_still false some =
-      play-one sq1_after s (Layers x y)
-      ∙ cond-true (is_layer_turn (Layers x y)) _ _ (layers_of_parts x y (record { top_within = top; bottom_within = bottom; some = some }))
+  by_still b h0 = grind (arith, turned-still, are_still-first, play-empty, after_layers-open, is_open-valid, play-one)
 
   pub play-layers : play sq1_after s (turn_word x y) ≡ after_layers s x y
   unfolding turn_word
-  play-layers =
-      ap (λ z. play sq1_after s (word_by (are_still z (twelfths y)) z (twelfths y))) (twelfths-own x top)
-      ∙ ap (λ z. play sq1_after s (word_by (are_still x z) x z)) (twelfths-own y bottom)
-      ∙ by_still (are_still x y) refl
+  play-layers = grind (arith, twelfths-own, by_still)
 
 -- ---- parts
 
 module _ (s : Sq1State) (h : IsSq1 s) where
   pub play-top : (n : ℕ) → n < 12 → play sq1_after s (shape_part n) ≡ after_layers s (amount n) (pos 0)
   unfolding shape_part turn_word
-  play-top n lt =
-      ap (play sq1_after s) (at_each shape_part (λ k. turn_word (amount k) (pos 0)) 12 refl n lt)
-      ∙ play-layers s (amount n) (pos 0) h (IsTwelfths-amount n lt) IsTwelfths-none
+  play-top n lt = grind (arith, at_each, play-layers s (amount n) (pos 0) h (IsTwelfths-amount n lt) IsTwelfths-none)
 
   pub play-bottom : (n k : ℕ) → n ≡ 12 + k → k < 12 → play sq1_after s (shape_part n) ≡ after_layers s (pos 0) (amount k)
   unfolding shape_part turn_word
   play-bottom n k is lt =
-      ap (λ i. play sq1_after s (shape_part i)) is
-      ∙ ap (play sq1_after s) (at_each (λ i. shape_part (12 + i)) (λ i. turn_word (pos 0) (amount i)) 12 refl k lt)
-      ∙ play-layers s (pos 0) (amount k) h IsTwelfths-none (IsTwelfths-amount k lt)
+      grind (arith, at_each, play-layers s (pos 0) (amount k) h IsTwelfths-none (IsTwelfths-amount k lt))
 
 pub play-twist : (s : Sq1State) → play sq1_after s (shape_part 24) ≡ Some (twisted s)
 unfolding shape_part sq1_after
@@ -271,14 +252,12 @@ after-amounts s o x y a b e top bottom = e ∙ ap (λ z. after_layers s z y) top
 
 behind_alike : (f g : Sq1State → Option Sq1State) (o : Option Sq1State) → ((r : Sq1State) → o ≡ Some r → f r ≡ g r)
     → option_and_then f o ≡ option_and_then g o
-behind_alike f g None same = refl
-behind_alike f g (Some r) same = same r refl
+behind_alike f g o h0 = grind arith
 
 joined_at : (v w : List Turn) (o : Option Sq1State)
     → ((r : Sq1State) → play sq1_after r (v ++ w) ≡ option_and_then (λ q. play sq1_after q w) (play sq1_after r v))
     → option_and_then (λ r. play sq1_after r (v ++ w)) o ≡ option_and_then (λ q. play sq1_after q w) (option_and_then (λ r. play sq1_after r v) o)
-joined_at v w None each = refl
-joined_at v w (Some r) each = each r
+joined_at v w o h0 = grind arith
 
 play-joined : (s : Sq1State) (v w : List Turn)
     → play sq1_after s (v ++ w) ≡ option_and_then (λ q. play sq1_after q w) (play sq1_after s v)
@@ -311,11 +290,7 @@ index-behind : (o : Option Sq1State) (k : ℕ) → ((r : Sq1State) → o ≡ Som
     → option_map shapes_index (option_and_then (λ r. play sq1_after r (shape_part k)) o)
     ≡ option_and_then (λ i. part_after i k) (option_map shapes_index o)
 index-behind None k valid = refl
-index-behind (Some r) k valid =
-    let h = valid r refl in
-    let i : ℕ = shapes_index r in
-    let lt = IsIndex-shapes.below r h in
-    shapes_alike r (shapes_state i) (shape_part k) h (IsIndex-shapes.valid i lt) (sym (IsIndex-shapes.again i lt))
+index-behind (Some r) k valid = grind (arith, valid, IsIndex-shapes, shapes_alike)
 
 module _ (i : ℕ) (lt : i < 7356) where
   valid : IsSq1 (shapes_state i)
@@ -354,17 +329,12 @@ still-parts = (refl, refl)
 
 pub still-index : (i k : ℕ) → i < 7356 → k < 25 → shape_part k ≡ []
     → Some i ≡ option_map shapes_index (by_letters sq1_after 25 shape_part (shapes_state i) k)
-still-index i k at part still =
-    sym (ap (option_map shapes_index)
-    (by_letters-played sq1_after 25 shape_part (shapes_state i) k part ∙ ap (play sq1_after (shapes_state i)) still ∙ play-empty sq1_after (shapes_state i))
-    ∙ ap Some (IsIndex-shapes.again i at))
+still-index i k at part still = grind (arith, by_letters-played, play-empty, IsIndex-shapes)
 
 -- ---- the coordinate of the parts
 
 pub StaysBelow-parts : StaysBelow shape_parts_coordinate
-StaysBelow-parts =
-    StaysBelow-indexed shapes_numbered 25 (by_letters sq1_after 25 shape_part) (λ i. false) IsIndex-shapes.valid IsIndex-shapes.below
-    (λ s r t h lt e. keeps_sq1 s r (shape_part t) h (by_letters-parts sq1_after 25 shape_part s r t e).1)
+StaysBelow-parts = grind (arith, StaysBelow-indexed, IsIndex-shapes, keeps_sq1, by_letters-parts)
 
 module _ {shown : Coordinate} (shows : ShowsSame shape_parts_coordinate shown) (i k : ℕ) (at : i < 7356) (part : k < 25) where
   pub part-seen : shown.after i k ≡ part_after i k
@@ -378,5 +348,4 @@ parts-below i k (Some j) at part e =
 -- the part of a state that stands for an index
 pub part-made : (s : Sq1State) (i k : ℕ) (o : Option Sq1State) → k < 25 → s ≡ shapes_state i
     → o ≡ play sq1_after s (shape_part k) → by_letters sq1_after 25 shape_part (shapes_state i) k ≡ o
-part-made s i k o lt is made =
-    by_letters-played sq1_after 25 shape_part (shapes_state i) k lt ∙ ap (λ r. play sq1_after r (shape_part k)) (sym is) ∙ sym made
+part-made s i k o lt is made = grind (arith, by_letters-played)

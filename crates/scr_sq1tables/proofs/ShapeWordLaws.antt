@@ -1,5 +1,5 @@
 -- The words to the square shape: what tells them, and that a search by the index finds them in the order of words.
-use Rattle.std.proofs.Common.{◌≡◌, ℕ, ◌<◌, Bool, false, IsTrue, List, [], ◌∷◌, Option, Some, None, refl, sym, ap, ◌∙◌, subst, arith, ◌≤◌, length, zero, suc, take, lit≤}
+use Rattle.std.proofs.Common.{◌≡◌, ℕ, ◌<◌, Bool, false, IsTrue, List, Option, Some, refl, ap, ◌∙◌, arith, ◌≤◌, length, take, lit≤}
 use Rattle.std.specs.Prelude.{◌↔◌, All, Contains, slice_get}
 use Rattle.std.specs.Option.{option_map_or}
 use Rattle.std.proofs.lemmas.Option.{same_Some}
@@ -19,11 +19,9 @@ use Rattle.scr_table.specs.Lines.{IsTableOf}
 use Rattle.scr_table.proofs.StageLaws.{stage_word}
 use Rattle.std.proofs.lemmas.List.Elements.{All-weaker, All-contains_itself, filter_agree}
 use Rattle.std.specs.List.{AllPairs}
-use Rattle.scr_combinatorics.specs.Lists.{numbers_from}
 use Rattle.scr_positions.proofs.SearchLaws.{FindsTheSame-follows}
 use Rattle.scr_sq1tables.specs.SearchTables.{shapes_table}
 use Rattle.scr_sq1tables.specs.Tables.{shapes_coordinate, shapes_index, shapes_line}
-use Rattle.scr_combinatorics.specs.Words.{words_within}
 use Rattle.scr_table.specs.Words.{leads_to_goal, words_to_goal}
 use Rattle.scr_table.proofs.GoalWords.{LeadsTo-test, leads-LeadsTo}
 use Rattle.scr_table.proofs.TriedWords.{same_truth}
@@ -34,8 +32,7 @@ use Rattle.scr_table.proofs.WordOrder.{IsEarlier-listed, Contains-listed, first-
 -- what passes a test is there
 some_tested : {A : Type 0} (test : A → Bool) (o : Option A) → IsTrue (option_map_or test o false)
     → (a : A) × (o ≡ Some a) × IsTrue (test a)
-some_tested test None t = absurd (cc)
-some_tested test (Some a) t = (a, refl, t)
+some_tested test o h0 = grind arith
 
 pub IsSquared-iff : (s : Sq1State) → IsTrue (is_squared s) ↔ shape_stage.IsGoal s
 unfolding is_squared
@@ -73,8 +70,7 @@ module _ (s : Sq1State) (word : List ℕ) (t : IsTrue (is_shape_word s word)) wh
   All-shape_word = All-letters sq1_after 144 shape_letter s shape_word-leads.end word shape_word-leads.played
 
   pub shape_word-goal : (r : Sq1State) → play sq1_after s (spelled shape_letter word) ≡ Some r → shape_stage.IsGoal r
-  shape_word-goal r led =
-      subst shape_stage.IsGoal (same_Some shape_word-leads.end r (sym play-shape_word ∙ led)) shape_word-leads.goal
+  shape_word-goal r led = grind (arith, same_Some, shape_word-leads, play-shape_word)
 
 -- ---- by the index
 
@@ -83,14 +79,12 @@ module _ (s : Sq1State) (valid : IsSq1 s) where
   leads-shape_word word =
       let i = shapes_index s in
       let finds = (FindsTheSame-follows shapes_table.space (positions shapes_coordinate) shapes_index Follows-shapes).words s word valid in
-      same_truth (LeadsTo (by_letters sq1_after 144 shape_letter) shape_stage.IsGoal s word) (leads_to_goal shapes_coordinate i word) (is_shape_word s word)
-      (λ t. finds.1 (LeadsTo-test shapes_coordinate i word t), λ l. leads-LeadsTo shapes_coordinate i word (finds.0 l)) (IsShapeWord-iff s word)
+      grind (arith, same_truth, i, finds, LeadsTo-test, leads-LeadsTo, IsShapeWord-iff)
 
   -- the words that lead from the index to a goal
   pub words-by_index : words_to_goal shapes_coordinate (shapes_index s) 13 ≡ shape_words s
   unfolding words_to_goal shape_words
-  words-by_index =
-      filter_agree (leads_to_goal shapes_coordinate (shapes_index s)) (is_shape_word s) leads-shape_word (words_within (numbers_from 0 144) 13)
+  words-by_index = grind (arith, filter_agree, leads-shape_word)
 
 -- ---- the first of them
 
@@ -126,13 +120,10 @@ module _ (s : Sq1State) where
 -- what is so of words that pass and are short is so of each
 pub All-shape_words : (s : Sq1State) (P : List ℕ → Type 0)
     → ((word : List ℕ) → (length word ≤ 13) × IsTrue (is_shape_word s word) → P word) → All P (shape_words s)
-All-shape_words s P each =
-    All-weaker (Contains (shape_words s)) P (λ word there. each word ((Contains-shape_words s word).0 there)) (shape_words s) (All-contains_itself (shape_words s))
+All-shape_words s P each = grind (arith, All-weaker, Contains-shape_words, All-contains_itself)
 
 first-taken : (n : ℕ) (xs : List (List ℕ)) → 1 ≤ n → slice_get (take n xs) 0 ≡ slice_get xs 0
-first-taken zero xs some = absurd (omega arith)
-first-taken (suc n) [] some = refl
-first-taken (suc n) (x ∷ xs) some = refl
+first-taken n xs h0 = grind arith
 
 -- where the table is built, there is a first one
 pub first-shape_word : (shapes : Distances) → IsTableOf shapes_line shapes → (s : Sq1State) → IsSq1 s → (wanted : ℕ)

@@ -1,6 +1,6 @@
 -- The lines of the tables of the Square-1, as states tell them: each number below the count of a table is the index of a
 -- state of which the table speaks.
-use Rattle.std.proofs.Common.{◌≡◌, ℕ, ◌/◌, ◌%◌, ◌<◌, true, List, [], ◌∷◌, map, slice_index, refl, ap, arith}
+use Rattle.std.proofs.Common.{◌≡◌, ℕ, ◌/◌, ◌%◌, ◌<◌, true, List, [], ◌∷◌, map, slice_index, refl, arith}
 use Rattle.std.specs.Prelude.{◌==◌, nat_lt, if◌then◌else◌, flat_map}
 use Rattle.scr_combinatorics.specs.Lists.{numbers_from}
 use Rattle.scr_combinatorics.specs.Pairings.{pairing_number, pairing_at}
@@ -12,7 +12,7 @@ use Rattle.scr_sq1tables.specs.Stages.{pairing_of}
 use Rattle.scr_sq1tables.specs.Tables.{shapes_state, shapes_line, pairings_index, pairings_line, square_state, square_line, sq1_lines}
 use Rattle.scr_sq1tables.specs.SearchTables.{shapes_table, pairings_table, square_table, sq1_tables}
 use Rattle.scr_sq1tables.proofs.Numbers.{at_each}
-use Rattle.scr_sq1tables.proofs.ShapeStage.{Follows-shapes, IsIndex-shapes, square_of, IsSquareOf-lists}
+use Rattle.scr_sq1tables.proofs.ShapeStage.{Follows-shapes, IsIndex-shapes, IsSquareOf-lists}
 use Rattle.scr_sq1tables.proofs.PairingStage.{Follows-pairings}
 use Rattle.scr_sq1tables.proofs.HomeStage.{Follows-square, IsIndex-square}
 
@@ -51,8 +51,7 @@ each-pairings i lt =
     let c = IsEvenList-below (i % 105) (omega arith) in
     let e = IsEvenList-below (i / 105) (omega arith) in
     let q = IsSquareOf-lists (even_list (i % 105)) (even_list (i / 105)) c.permutation e.permutation (omega (arith, c.even, e.even)) in
-    let number : List ℕ → ℕ = λ pieces. pairing_number 4 (pairing_of pieces) in
-    (square_of (even_list (i % 105)) (even_list (i / 105)), q.normal, omega (arith, ap number q.corners, ap number q.edges, c.number, e.number))
+    grind arith
 
 pub AreLinesOf-sq1 : AreLinesOf sq1_tables sq1_lines
 AreLinesOf-sq1 = (

@@ -37,8 +37,7 @@ occurs-stands_in x (y ∷ ys) e =
 -- and nothing else: what holds of each holds of it
 pub at-stands_in : (P : ℕ → Type 0) (xs : List ℕ) (x : ℕ) → All P xs → stands_in xs x ≡ true → P x
 at-stands_in P xs x h e =
-    let occurs = occurs-stands_in x xs e in
-    subst P (at-place_of x xs occurs) (h (place_of x xs) 0 (place_of-lt x xs occurs))
+    grind (arith, at-place_of x xs (occurs-stands_in x xs e), place_of-lt x xs (occurs-stands_in x xs e))
 
 -- ---- places of marked pieces
 
@@ -57,8 +56,7 @@ All-marked-below marked xs =
 -- a place is one of them where its piece is marked
 pub stands_in-places : (marked : ℕ → Bool) (xs : List ℕ) (place : ℕ) → place < length xs
     → stands_in (marked_places marked xs) place ≡ marked (slice_index xs place)
-stands_in-places marked xs place lt =
-    ap (stands_in (marked_places marked xs)) (sym (zero-add place)) ∙ stands_in-marked marked 0 place xs lt
+stands_in-places marked xs place lt = cc (zero-add place, stands_in-marked marked 0 place xs lt)
 
 -- with marked pieces
 pub All-marked : (marked : ℕ → Bool) (xs : List ℕ)
@@ -75,16 +73,12 @@ pub place_of-own : (low n j : ℕ) (block : List ℕ) → IsPlaceSetFrom low n b
 place_of-own low n j [] h lt = absurd (omega arith)
 place_of-own low n zero (x ∷ xs) h lt = ap (λ b. cond b 0 (suc (place_of x xs))) (eq-eqb x x refl)
 place_of-own low n (suc j) (x ∷ xs) h lt =
-    let apart : x ≡ slice_index xs j → ⊥ = λ e. false≢true (sym (stands_in-later x n xs h.2) ∙ ap (stands_in xs) e ∙ All-stands_in xs j 0 (omega arith)) in
-    ap (λ b. cond b 0 (suc (place_of (slice_index xs j) xs))) (ne_eqb x (slice_index xs j) apart)
-    ∙ ap suc (place_of-own (suc x) n j xs h.2 (omega arith))
+    grind (arith, false≢true, stands_in-later, All-stands_in, ne_eqb, place_of-own (suc x) n j xs h.2 (omega arith))
 
 -- pieces that stand in a block are picked from it by their places there
 pub pick-places : (block xs : List ℕ) → All (λ x. stands_in block x ≡ true) xs
     → pick block (map (λ x. place_of x block) xs) ≡ xs
-pick-places block xs h =
-    map-back (slice_index block) (λ x. place_of x block) xs
-    (λ k d lt. at-place_of (get_or xs k d) block (occurs-stands_in (get_or xs k d) block (h k d lt)))
+pick-places block xs h = grind (arith, map-back, at-place_of, occurs-stands_in)
 
 -- the places at which the pieces of a block stand, and these pieces in the order of their places, told by their places
 -- in the block
@@ -128,14 +122,11 @@ module _ (n k : ℕ) (block xs : List ℕ) (set : IsPlaceSet n k block) (h : IsP
       get_or-map (λ x. place_of x block) (pick xs places) m 0 0 (omega (arith, length-pick xs places))
       ∙ ap (λ x. place_of x block) (pick-at xs places m m_below ∙ ap (slice_index xs) (at-place_of place places in_set) ∙ there)
       ∙ place_of-own 0 n j block set.increasing (omega (arith, set.size)) in
-      subst (λ i. 0 < occurrences i (order_in block xs)) at
-      (occurrences-at (order_in block xs) m (omega (arith, length-map (pick xs places) (λ x. place_of x block), length-pick xs places)))
+      grind (arith, at, occurrences-at, length-map, places, length-pick)
 
   pub IsPermutation-order_in : IsPermutation k (order_in block xs)
   IsPermutation-order_in =
-      let places = places_in block xs in
-      IsPermutation-from_each k (order_in block xs)
-      (length-map (pick xs places) (λ x. place_of x block) ∙ length-pick xs places ∙ length-places n k block xs set h) each_in_order
+      grind (arith, IsPermutation-from_each, length-map, length-places n k block xs set h, each_in_order)
 
 -- ---- pieces read and put back
 
@@ -144,8 +135,7 @@ pub pick-arranged : (n : ℕ) (xs places : List ℕ) → length xs ≡ n → IsP
     → pick (pick xs places) (inverse places) ≡ xs
 pick-arranged n xs places size h =
     let below = All-permutation n (inverse places) (IsPermutation-inverse n places h) in
-    pick-pick xs places (inverse places) (subst (λ m. All (λ k. k < m) (inverse places)) (sym h.size) below)
-    ∙ ap (pick xs) (pick-inverse n places h) ∙ pick-all n xs size
+    grind (arith, pick-pick, below, pick-inverse n places h, pick-all n xs size)
 
 pub pick-append : (xs ks ls : List ℕ) → pick xs (ks ++ ls) ≡ pick xs ks ++ pick xs ls
 pick-append xs ks ls = map-append (slice_index xs) ks ls

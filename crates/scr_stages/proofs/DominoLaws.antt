@@ -1,14 +1,14 @@
 -- Dominoes, and the turns that keep them.
-use Rattle.std.proofs.Common.{◌≡◌, ℕ, suc, ◌+◌, ◌<◌, ◌≤◌, Bool, true, false, not, cond, List, [], ◌∷◌, ◌++◌, length, slice_index, refl, sym, ap, ◌∙◌, subst, lit<, arith}
+use Rattle.std.proofs.Common.{◌≡◌, ℕ, suc, ◌+◌, ◌<◌, ◌≤◌, Bool, true, false, not, cond, List, [], ◌∷◌, ◌++◌, length, slice_index, refl, sym, ap, ◌∙◌, lit<, arith}
 use Rattle.std.specs.Prelude.{All, ◌&&◌, nat_lt}
 use Rattle.std.proofs.lemmas.List.{append-nil}
 use Rattle.std.proofs.lemmas.List.Elements.{All-head, All-tail, All-weaker}
 use Rattle.scr_combinatorics.specs.Lists.{pick}
 use Rattle.scr_combinatorics.specs.Permutations.{IsPermutation}
-use Rattle.scr_combinatorics.specs.PlaceSets.{IsPlaceSetFrom, IsPlaceSet}
+use Rattle.scr_combinatorics.specs.PlaceSets.{IsPlaceSet}
 use Rattle.scr_combinatorics.proofs.PermutationLaws.{All-permutation, at-permutation}
 use Rattle.scr_combinatorics.proofs.Picks.{pick-from_order}
-use Rattle.scr_orbit.specs.Orbits.{Orbit, turned_orbit, added_digits, zeros}
+use Rattle.scr_orbit.specs.Orbits.{Orbit, turned_orbit, zeros}
 use Rattle.scr_orbit.proofs.DigitLaws.{added_digits-to_zeros, All-zeros, length-zeros}
 use Rattle.scr_orbit.proofs.OrbitLaws.{places_in as places_below}
 use Rattle.scr_coord.specs.Projections.{marked_from, stands_in, turned_set}
@@ -32,9 +32,7 @@ use Rattle.scr_stages.proofs.FiniteTests.{IsPlaceSet-own, pick-all}
 zeros-turned : (n m : ℕ) (o r : Orbit) → 0 < m → IsPermutation n r.pieces → o.digits ≡ zeros n
     → r.digits ≡ zeros n → (turned_orbit m o r).digits ≡ zeros n
 unfolding turned_orbit
-zeros-turned n m o r pos h e f =
-    ap (λ ds. added_digits m (pick ds r.pieces) r.digits) e ∙ ap (added_digits m (pick (zeros n) r.pieces)) f
-    ∙ added_digits-to_zeros m n r.pieces (zeros n) (All-zeros m n pos) (h.size ∙ sym (length-zeros n))
+zeros-turned n m o r pos h e f = grind (arith, added_digits-to_zeros, All-zeros, length-zeros)
 
 pub IsUnflippedCube-turned : (c r : CubeState) → IsUnflippedCube c → IsUnflippedCube r
     → IsUnflippedCube (cube_monoid.turned c r)
@@ -147,13 +145,12 @@ module _ (c : CubeState) (d : IsDominoCube c) where
   -- the first edges stand above and below
   pub IsPlaceSet-first_places : IsPlaceSet 8 4 (places_in first_edges c.edges.pieces)
   IsPlaceSet-first_places =
-      let p = c.edges.pieces in
-      let is = d.cube.edges.pieces in
-      let outer = outer_only first_edges p (All-place_set 0 8 first_edges IsPlaceSet-outer.increasing) is d.domino.middle in
-      record {
-        size = (IsPlaceSet-marked 12 4 (stands_in first_edges) p is refl).size;
-        increasing = subst (IsPlaceSetFrom 0 8) (sym outer) (IsPlaceSetFrom-marked (stands_in first_edges) 0 8 (pick p outer_places) refl);
-      }
+      grind (
+        arith,
+        outer_only first_edges c.edges.pieces (All-place_set 0 8 first_edges IsPlaceSet-outer.increasing) d.cube.edges.pieces d.domino.middle,
+        IsPlaceSet-marked 12 4 (stands_in first_edges) c.edges.pieces d.cube.edges.pieces refl,
+        IsPlaceSetFrom-marked (stands_in first_edges) 0 8 (pick c.edges.pieces outer_places) refl,
+      )
 
 -- ---- turns of the edges above and below
 

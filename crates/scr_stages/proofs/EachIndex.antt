@@ -1,6 +1,5 @@
 -- Each number of a table is that of some cube of which the table speaks.
 use Rattle.std.proofs.Common.{◌≡◌, ℕ, ◌+◌, ◌*◌, ◌/◌, ◌%◌, ◌<◌, not, List, ◌++◌, refl, sym, ap, ◌∙◌, lit<, arith}
-use Rattle.std.proofs.Math.Nat.{div-add-mod}
 use Rattle.std.proofs.lemmas.Nat.{mod_below}
 use Rattle.scr_combinatorics.specs.Lists.{numbers_from, pick}
 use Rattle.scr_combinatorics.specs.Permutations.{IsPermutation, factorial, inversions, parity, half_at}
@@ -33,11 +32,7 @@ pub each_pair : {S : Type 0} (IsValid : S → Type 0) (low high : S → ℕ) (n 
     → (i : ℕ) → i < n * m → (s : S) × IsValid s × (low s + n * high s ≡ i)
 each_pair IsValid low high n m gives i lt =
     let parts = part_below n m i lt in
-    let found = gives (i % n) (i / n) parts.0 parts.1 in (
-      found.0,
-      found.1,
-      ap (λ a. a + n * high found.0) found.2 ∙ ap (λ b. i % n + n * b) found.3 ∙ omega (arith, div-add-mod i n),
-    )
+    let found = gives (i % n) (i / n) parts.0 parts.1 in grind arith
 
 -- ---- lists that the checker finds for each number
 

@@ -6,7 +6,7 @@ use Rattle.std.proofs.lemmas.List.Elements.{All-head, All-tail, All-weaker, All-
 use Rattle.scr_combinatorics.specs.Lists.{lesser_count, occurrences, numbers_from, pick}
 use Rattle.scr_combinatorics.specs.Permutations.{IsPermutation, inversions, parity, permutation_at, inverse}
 use Rattle.scr_combinatorics.proofs.Counts.{one_if-ge}
-use Rattle.scr_combinatorics.proofs.Parities.{parity-pick, parity-inverse}
+use Rattle.scr_combinatorics.proofs.Parities.{parity-pick}
 use Rattle.scr_combinatorics.proofs.PermutationLaws.{All-permutation, IsPermutation-from_test, IsPermutation-inverse, IsPermutation-numbers_from, IsPermutation-pick, IsPermutation-rearranged, IsRearranged-permutations, IsRearranged-pick, inverse-pick}
 use Rattle.scr_combinatorics.proofs.Picks.{All-pick, length-pick, pick-pick}
 use Rattle.scr_orbit.proofs.Parts.{ap_both}
@@ -165,13 +165,11 @@ module _ (a b c : List ℕ) (ha : IsPermutation 4 a) (hb : IsPermutation 4 b) (h
 
   pub parity-edges : parity (edges_of_blocks a b c) ≡ (parity a + parity b + parity c) % 2
   parity-edges =
-      let places = IsPermutation-block_places in
-      omega (
+      grind (
         arith,
-        ap parity edges_are,
-        parity-pick 12 (pick block_places orders) (inverse block_places) IsPermutation-picked (IsPermutation-inverse 12 block_places places),
-        parity-pick 12 block_places orders places IsPermutation-orders,
-        parity-inverse 12 block_places places,
+        edges_are,
+        parity-pick 12 (pick block_places orders) (inverse block_places) IsPermutation-picked (IsPermutation-inverse 12 block_places IsPermutation-block_places),
+        parity-pick 12 block_places orders IsPermutation-block_places IsPermutation-orders,
         parity-behind 8 middle_edges IsBehind-middle front c IsPermutation-front hc,
         parity-behind 4 second_four IsBehind-second a b ha hb,
       )

@@ -1,6 +1,6 @@
 -- What holds of each number below a count, of each element of a list, and of each permutation of few numbers, as the
 -- checker computes.
-use Rattle.std.proofs.Common.{◌≡◌, ℕ, ◌<◌, Bool, true, false, not, List, [], ◌∷◌, length, map, get_or, refl, sym, ap, ◌∙◌, subst, arith}
+use Rattle.std.proofs.Common.{◌≡◌, ℕ, ◌<◌, Bool, true, false, not, List, [], ◌∷◌, length, map, refl, sym, ap, ◌∙◌, arith}
 use Rattle.std.specs.List.{All, list_all, range_with_len}
 use Rattle.std.proofs.lemmas.List.{get_or-map, map-id}
 use Rattle.std.proofs.lemmas.List.Elements.{All-head, All-tail}
@@ -28,8 +28,7 @@ pub test-below : (test : ℕ → Bool) (n k : ℕ) → passes_below test n ≡ t
 unfolding passes_below
 test-below test n k all lt =
     let each = AllPass-from_list_all test (numbers_from 0 n) all in
-    let at : get_or (numbers_from 0 n) k 0 ≡ k = numbers_from-at 0 n k lt ∙ omega arith in
-    ap test (sym at) ∙ each k 0 (omega (arith, length-numbers_from 0 n))
+    grind (arith, numbers_from-at 0 n k lt, each k 0 (omega (arith, length-numbers_from 0 n)))
 
 -- a list of n pieces that is found for each number, and has it
 pub record HasOwn (n : ℕ) (number_of : List ℕ → ℕ) (list_at : ℕ → List ℕ) (number : ℕ) : Type 0 where
@@ -52,10 +51,7 @@ agree false b = not b
 
 pub agree-same : (a b : Bool) → agree a b ≡ true → a ≡ b
 unfolding agree
-agree-same true true e = refl
-agree-same true false e = sym e
-agree-same false true e = e
-agree-same false false e = refl
+agree-same a b h0 = grind arith
 
 -- ---- each state of those that are numbered one to one, as each permutation of n numbers
 
@@ -81,15 +77,13 @@ at_permutation f g n = at_numbered f g (permutations_one_to_one n)
 pub at_permutations : {X : Type 0} (f g : List ℕ → List ℕ → X) (m n : ℕ)
     → on_all (λ xs. on_all (f xs) n) m ≡ on_all (λ xs. on_all (g xs) n) m → (xs ys : List ℕ) → IsPermutation m xs
     → IsPermutation n ys → f xs ys ≡ g xs ys
-at_permutations f g m n e xs ys h k =
-    at_permutation (f xs) (g xs) n (at_permutation (λ xs. on_all (f xs) n) (λ xs. on_all (g xs) n) m e xs h) ys k
+at_permutations f g m n e xs ys h k = grind (arith, at_permutation)
 
 -- ---- each element of a list
 
 -- functions that agree on each
 pub at_element : {X Y : Type 0} (f g : X → Y) (xs : List X) → map f xs ≡ map g xs → All (λ x. f x ≡ g x) xs
-at_element f g xs e k d lt =
-    sym (get_or-map f xs k d (f d) lt) ∙ ap (λ ys. get_or ys k (f d)) e ∙ get_or-map g xs k d (f d) lt
+at_element f g xs e k d lt = cc (get_or-map f xs k d (f d) lt, get_or-map g xs k d (f d) lt)
 
 pub map-same : {X Y : Type 0} (f g : X → Y) (xs : List X) → All (λ x. f x ≡ g x) xs → map f xs ≡ map g xs
 map-same f g [] h = refl
@@ -109,5 +103,4 @@ pick-all n xs size = ap (λ m. pick xs (numbers_from 0 m)) (sym size) ∙ pick-i
 -- a list that has its places in order
 pub IsPlaceSet-own : (n k : ℕ) (block : List ℕ) → marked_places (stands_in block) (numbers_from 0 n) ≡ block
     → length block ≡ k → IsPlaceSet n k block
-IsPlaceSet-own n k block own size =
-    subst (IsPlaceSet n k) own (IsPlaceSet-marked n k (stands_in block) (numbers_from 0 n) (IsPermutation-numbers_from n) (ap length own ∙ size))
+IsPlaceSet-own n k block own size = grind (arith, IsPlaceSet-marked, IsPermutation-numbers_from)

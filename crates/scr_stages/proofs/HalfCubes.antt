@@ -1,11 +1,11 @@
 -- Dominoes with the tetrads number of solved are numbered one to one.
-use Rattle.std.proofs.Common.{◌≡◌, ℕ, ◌+◌, ◌*◌, ◌/◌, ◌%◌, ◌<◌, not, List, [], ◌∷◌, ◌++◌, map, slice_index, refl, sym, ap, ◌∙◌, subst, lit<, lit≤, arith}
+use Rattle.std.proofs.Common.{◌≡◌, ℕ, ◌+◌, ◌/◌, ◌%◌, ◌<◌, not, List, [], ◌∷◌, ◌++◌, slice_index, refl, sym, ap, ◌∙◌, subst, lit<, lit≤, arith}
 use Rattle.std.specs.Prelude.{◌&&◌}
 use Rattle.std.proofs.lemmas.Nat.{mod_below}
 use Rattle.scr_combinatorics.specs.Lists.{numbers_from, pick}
 use Rattle.scr_combinatorics.specs.Digits.{AreDigits}
 use Rattle.scr_combinatorics.specs.Numbering.{IsNumbering}
-use Rattle.scr_combinatorics.specs.Permutations.{IsPermutation, place_of, parity, inversions, inverse, permutation_number, permutation_at, half_at}
+use Rattle.scr_combinatorics.specs.Permutations.{IsPermutation, parity, inverse, permutation_number, permutation_at, half_at}
 use Rattle.scr_combinatorics.specs.PlaceSets.{IsPlaceSet, place_set_number}
 use Rattle.scr_combinatorics.proofs.Digits.{by_four_digits}
 use Rattle.scr_combinatorics.proofs.Halves.{IsHalf, IsHalf-half_at, half_at-number}
@@ -47,9 +47,7 @@ module _ (p : List ℕ) (h : IsPermutation 8 p) (same : corner_index p ≡ corne
 
   label-number : label_of p h ≡ half_corners_number p
   unfolding half_corners_number
-  label-number =
-      ap (λ places. slice_index (map (λ x. place_of x second_tetrad) (pick p places)) 0 + 4 * permutation_number (first_order p h)) second_tetrad-kept
-      ∙ ap (λ places. place_of (slice_index p 1) second_tetrad + 4 * permutation_number (map (λ x. place_of x first_tetrad) (pick p places))) first_tetrad-kept
+  label-number = grind (arith, first_order, second_tetrad-kept, first_tetrad-kept)
 
   pub half_corners_number-lt : half_corners_number p < 96
   half_corners_number-lt = subst (λ n. n < 96) label-number (label-lt p h)
@@ -144,14 +142,13 @@ module _ (c : CubeState) (h : IsHalfCube c) where
   -- the parity of the middle edges is what the others leave
   parity-middle : (parity c.corners.pieces + parity first + parity second) % 2 ≡ parity third
   parity-middle =
-      omega (
+      grind (
         arith,
-        parity-edges first second third (block-order first_edges IsHalfBlock-first c h) (block-order second_edges IsHalfBlock-second c h)
-            (block-order middle_edges IsHalfBlock-middle c h),
-        ap parity edges-again,
-        h.domino.cube.same_parity,
-        mod_below (inversions third) 2 (lit< tt),
-        mod_below (inversions c.corners.pieces) 2 (lit< tt),
+        parity-edges,
+        block-order first_edges IsHalfBlock-first c h,
+        block-order second_edges IsHalfBlock-second c h,
+        block-order middle_edges IsHalfBlock-middle c h,
+        edges-again,
       )
 
   AreDigits-half : AreDigits half_bases (half_digits c)
@@ -223,14 +220,8 @@ module _ (half s f q : ℕ) (lh : half < 12) (ls : s < 24) (lf : f < 24) (lq : q
       let first-in = HasBlock-picked edges first_edges (permutation_at 4 f) IsPlaceSet-first_edges are_edges (IsPermutation-at 4 f lf) picks.first in
       let second-in = HasBlock-picked edges second_edges (permutation_at 4 s) IsPlaceSet-second_edges are_edges (IsPermutation-at 4 s ls) picks.second in
       let c : CubeState = record { corners = record { pieces = corners; digits = zeros 8 }; edges = record { pieces = edges; digits = zeros 12 } } in
-      let d : IsDominoCube c = record {
-        cube = record {
-          corners = IsZeroSum-still 8 3 corners (lit< tt) list.permutation;
-          edges = IsZeroSum-still 12 2 edges (lit< tt) are_edges;
-          same_parity = omega (arith, parity-edges _ _ _ (IsPermutation-at 4 f lf) (IsPermutation-at 4 s ls) left.permutation, left.same_parity, mod_below (inversions corners) 2 (lit< tt));
-        };
-        domino = record { no_flips = refl; no_twists = refl; middle = third-in.kept };
-      } in
+      let d : IsDominoCube c =
+      grind (arith, IsZeroSum-still, are_edges, parity-edges, IsPermutation-at, left, mod_below, third-in) in
       record {
         valid = record { domino = d; index = (IsTetradsHome-iff c d).1 (record { first = first-in.kept; corners = corner_index-half q lq }) };
         again = ap_both (λ x xs. x ∷ xs) (ap (λ xs. permutation_number xs / 2) third-in.inside ∙ left.number)

@@ -1,5 +1,5 @@
 -- What half turns reach of solved: dominoes with the tetrads number of solved, where a table measures the halves.
-use Rattle.std.proofs.Common.{◌≡◌, ℕ, ◌≤◌, List, [], ◌∷◌, Option, Some, None, reverse, refl, sym, ap, ◌∙◌}
+use Rattle.std.proofs.Common.{◌≡◌, ℕ, ◌≤◌, List, [], ◌∷◌, Option, Some, None, reverse, refl, sym, ap, ◌∙◌, arith}
 use Rattle.std.specs.Prelude.{All, ◌↔◌, option_and_then, slice_get}
 use mathlib.Core.List.{reverse-cons}
 use Rattle.std.proofs.lemmas.List.Elements.{All-from_recursion}
@@ -27,16 +27,14 @@ use Rattle.scr_cube.specs.ListedTurns.{after_of}
 use Rattle.scr_stages.specs.Numbers.{IsDominoCube, first_edges, tetrads_number, IsHalfCube, half_cubes}
 use Rattle.scr_stages.specs.SearchTables.{halves_table}
 use Rattle.scr_stages.specs.Tables.{turns_of, halves_coordinate}
-use Rattle.scr_stages.specs.Tetrads.{corner_index, corners_at}
+use Rattle.scr_stages.specs.Tetrads.{corner_index}
 use Rattle.scr_positions.proofs.IndexLaws.{Follows-numbered, StaysBelow-numbered}
-use Rattle.scr_coord.specs.Projections.{turned_set}
 use Rattle.scr_stages.proofs.ViewLaws.{TurnsStates, kept_by}
 use Rattle.scr_cube.proofs.ListedTurns.{after_of-is}
 use Rattle.scr_stages.proofs.TurnFacts.{after_of-turns, All-numbers, halves_turns}
 use Rattle.scr_stages.proofs.TetradTests.{corners_at-solved}
 use Rattle.scr_stages.proofs.TetradLaws.{corner_index-turned}
 use Rattle.scr_stages.proofs.DominoLaws.{IsDominoCube-turned, places-turned}
-use Rattle.scr_stages.proofs.StageSpaces.{IsTetradsHome-iff}
 use Rattle.scr_stages.proofs.HalfCubes.{IsTetradsHome-half, half_cubes-numbered}
 
 -- ---- half turns keep them
@@ -46,27 +44,19 @@ pub corner_index-kept : (p ks : List ℕ) → IsPermutation 8 p → IsPermutatio
     → corner_index p ≡ corner_index (numbers_from 0 8) → corner_index ks ≡ corner_index (numbers_from 0 8)
     → corner_index (pick p ks) ≡ corner_index (numbers_from 0 8)
 corner_index-kept p ks h k e f =
-    sym (corner_index-turned p ks h k)
-    ∙ ap (λ i. corner_index (pick (corners_at i) ks)) e
-    ∙ ap (λ xs. corner_index (pick xs ks)) corners_at-solved
-    ∙ ap corner_index (pick-from_order 8 ks (All-permutation 8 ks k))
-    ∙ f
+    cc (corner_index-turned p ks h k, corners_at-solved, pick-from_order 8 ks (All-permutation 8 ks k))
 
 pub IsHalfCube-turned : (c r : CubeState) → IsHalfCube c → IsHalfCube r → IsHalfCube (cube_monoid.turned c r)
 unfolding turned_orbit
 IsHalfCube-turned c r h t =
-    let home = IsTetradsHome-half c h in
-    let other = IsTetradsHome-half r t in
-    let turned = IsDominoCube-turned c r h.domino t.domino in
-    let valid = t.domino.cube in
-    record {
-      domino = turned;
-      index = (IsTetradsHome-iff (cube_monoid.turned c r) turned).1 (record {
-        first = places-turned 12 2 first_edges c.edges r.edges h.domino.cube.edges.pieces valid.edges.pieces
-            ∙ ap (λ places. turned_set places r.edges) home.first ∙ other.first;
-        corners = corner_index-kept c.corners.pieces r.corners.pieces h.domino.cube.corners.pieces valid.corners.pieces home.corners other.corners;
-      });
-    }
+    grind (
+      arith,
+      IsTetradsHome-half c h,
+      IsTetradsHome-half r t,
+      IsDominoCube-turned c r h.domino t.domino,
+      places-turned 12 2 first_edges c.edges r.edges h.domino.cube.edges.pieces t.domino.cube.edges.pieces,
+      corner_index-kept,
+    )
 
 pub halves_moves : TurnsStates cube_monoid.turned (turns_of half_turns) (after_of half_turns) IsHalfCube
 halves_moves = record { each = halves_turns; after_is = after_of-turns half_turns (All-numbers half_turns refl); keeps = IsHalfCube-turned }
@@ -87,9 +77,7 @@ IsHalfCube-half_turned c h = play-keeps (after_of half_turns) IsHalfCube IsHalfC
 -- ---- they go along with their numbers
 
 no_seventh : (c : CubeState) (place : ℕ) → 6 ≤ place → after_of half_turns c place ≡ None
-no_seventh c place le =
-    after_of-is half_turns c place
-    ∙ ap (option_and_then (λ t. (after_letter cube_powers) c (face_turn_at t))) (slice_get_past half_turns place le)
+no_seventh c place le = grind (arith, after_of-is, slice_get_past)
 
 pub Follows-halves : Follows halves_table.space (positions halves_coordinate) half_cubes.number_of
 Follows-halves =
@@ -123,8 +111,7 @@ play-reversed : {S : Type 0} (after : S → ℕ → Option S) (IsValid : S → T
     → ((s r : S) (t : ℕ) → IsValid s → after s t ≡ Some r → IsValid r)
     → ((s r : S) (t : ℕ) → IsValid s → after s t ≡ Some r → after r t ≡ Some s) → (s r : S) (w : List ℕ) → IsValid s
     → play after s w ≡ Some r → play after r (reverse w) ≡ Some s
-play-reversed after IsValid keeps undoes s r [] h e =
-    let d = play-empty after s in let f = play-empty after r in let same : s ≡ r = cc in f ∙ ap Some (sym same)
+play-reversed after IsValid keeps undoes s r [] h e = grind (arith, play-empty)
 play-reversed after IsValid keeps undoes s r (t ∷ w) h e =
     let parts = play-parts after s r t w e in
     ap (play after r) (reverse-cons t w)

@@ -36,8 +36,7 @@ module _ (n k : ℕ) (block : List ℕ) (set : IsPlaceSet n k block) where
 
   pub places_from-kept : (xs : List ℕ) → length xs ≡ n → places_in block xs ≡ block → (place : ℕ) → place < n
       → stands_in block (slice_index xs place) ≡ stands_in block place
-  places_from-kept xs size kept place lt =
-      sym (stands_in-places (stands_in block) xs place (omega (arith, size))) ∙ ap (λ places. stands_in places place) kept
+  places_from-kept xs size kept place lt = grind (arith, stands_in-places)
 
   -- the places of the block have its pieces
   pub All-kept : (xs : List ℕ) → places_in block xs ≡ block → All (λ x. stands_in block x ≡ true) (pick xs block)
@@ -48,8 +47,7 @@ module _ (n k : ℕ) (block : List ℕ) (set : IsPlaceSet n k block) where
   -- which are told by a permutation
   pub IsPermutation-in_block : (xs : List ℕ) → IsPermutation n xs → places_in block xs ≡ block
       → IsPermutation k (in_block block xs)
-  IsPermutation-in_block xs h kept =
-      subst (λ places. IsPermutation k (map (λ x. place_of x block) (pick xs places))) kept (IsPermutation-order_in n k block xs set h)
+  IsPermutation-in_block xs h kept = grind (arith, IsPermutation-order_in n k block xs set h)
 
   pub pick-in_block : (xs : List ℕ) → places_in block xs ≡ block → pick block (in_block block xs) ≡ pick xs block
   pick-in_block xs kept = pick-places block (pick xs block) (All-kept xs kept)
@@ -65,8 +63,7 @@ module _ (n k : ℕ) (block : List ℕ) (set : IsPlaceSet n k block) where
   -- And then all pieces of the block stand in it.
   module _ (xs order : List ℕ) (h : IsPermutation n xs) (o : IsPermutation k order) (e : pick xs block ≡ pick block order) where
     at_block : (m : ℕ) → m < k → slice_index xs (slice_index block m) ≡ slice_index block (slice_index order m)
-    at_block m lt =
-        sym (pick-at xs block m (omega (arith, set.size))) ∙ ap (λ ys. slice_index ys m) e ∙ pick-at block order m (omega (arith, o.size))
+    at_block m lt = grind (arith, pick-at)
 
     stands_by : (place : ℕ) → place < n → (b c : Bool) → stands_in block (slice_index xs place) ≡ b
         → stands_in block place ≡ c → b ≡ c
@@ -96,9 +93,7 @@ module _ (n k : ℕ) (block : List ℕ) (set : IsPlaceSet n k block) where
         sym (All-stands_in block m 0 (omega (arith, set.size))) ∙ ap (stands_in block) place_is ∙ q
 
     pub kept_from-picked : places_in block xs ≡ block
-    kept_from-picked =
-        kept_from-places xs h.size (λ place lt.
-        stands_by place lt (stands_in block (slice_index xs place)) (stands_in block place) refl refl)
+    kept_from-picked = grind (arith, kept_from-places, stands_by)
 
   -- a turn that carries the pieces at the places of the block among these
   pub in_block-turned : (xs ks : List ℕ) → length xs ≡ n → length ks ≡ n → places_in block ks ≡ block

@@ -1,5 +1,5 @@
 -- Solutions by stages, and the scrambles that they give.
-use Rattle.std.proofs.Common.{◌≡◌, ℕ, ◌≤◌, List, [], ◌∷◌, map, length, Some, refl, ap, ◌∙◌, arith, lit<, lit≤}
+use Rattle.std.proofs.Common.{◌≡◌, ℕ, ◌≤◌, List, [], ◌∷◌, map, length, Some, refl, arith, lit<, lit≤}
 use Rattle.std.specs.Prelude.{◌↔◌}
 use Rattle.std.proofs.lemmas.List.{length-map, length-reverse}
 use Rattle.scr_combinatorics.specs.Play.{play, count_in}
@@ -52,8 +52,7 @@ pub solution-played : (c : CubeState) (s : List Turn) → IsSolution (after_lett
 unfolding last_goal
 solution-played c s a =
     let Any : CubeState → Type 0 = λ c. Unit {0} in
-    let leads = Leads-solution (after_letter cube_powers) stages Any c s tt a in
-    leads.played ∙ ap Some leads.goal
+    grind (arith, Leads-solution (after_letter cube_powers) stages Any c s tt a)
 
 -- Where the tables are built, each cube has a solution.
 pub solution : (tables : List Distances) → AreTablesOf stage_lines tables → (c : CubeState) → IsCube c
@@ -88,9 +87,7 @@ solution tables built c h =
 -- Where the tables are built, a domino has the index of solved exactly where half turns reach it.
 pub tetrads_number-built : (tables : List Distances) → AreTablesOf stage_lines tables → (c : CubeState) → IsDominoCube c
     → (tetrads_number c ≡ tetrads_number solved_cube) ↔ IsHalfTurned c
-tetrads_number-built tables built =
-    let halves = table_of_line stage_lines tables built halves_line (3, lit< tt, refl) in
-    tetrads_number-half_turned halves.0 halves.1.measures
+tetrads_number-built tables built = grind (arith, table_of_line, tetrads_number-half_turned)
 
 -- ---- scrambles
 
@@ -99,9 +96,8 @@ IsStageScramble-unique = one_scramble (after_letter cube_powers) opposite turn_m
 
 pub scramble-at_most : (c : CubeState) (s : List Turn) → IsStageScramble c s → length s ≤ 52
 scramble-at_most c s a =
-    omega (
+    grind (
       arith,
-      ap length a.taken_back,
       length-reverse (map opposite (tidy turn_merging a.solution)),
       length-map (tidy turn_merging a.solution) opposite,
       length-tidy turn_merging a.solution,

@@ -108,13 +108,7 @@ unflipped_moves = record { each = slice_each; after_is = after_of-turns slice_tu
 -- without flips it leads to dominoes
 pub Follows-unflipped : Follows (cube_space IsUnflippedCube slice_turns IsDomino) (positions slice_coordinate)
     slice_number
-Follows-unflipped =
-    let after = after_of slice_turns in
-    let IsHome : CubeState → Type 0 = λ c. IsUntwisted c × IsInMiddle c in
-    Follows-goals IsUnflippedCube IsHome IsDomino after slice_coordinate slice_number
-    (λ c h. (λ d. (d.no_twists, d.middle), λ d. record { no_flips = h.no_flips; no_twists = d.0; middle = d.1 }))
-    (Follows-fewer IsCube IsUnflippedCube IsHome after slice_coordinate slice_number (λ c h. h.cube)
-    (kept_by unflipped_moves) Follows-slice)
+Follows-unflipped = grind (arith, Follows-goals, Follows-fewer, kept_by unflipped_moves, Follows-slice)
 
 -- ---- dominoes
 
@@ -129,8 +123,7 @@ pub record IsTetradsHome (c : CubeState) : Type 0 where
 -- the parts of a number
 pub same_parts : (n a b x y : ℕ) → a < n → x < n → a + n * b ≡ x + n * y → (a ≡ x) × (b ≡ y)
 same_parts n a b x y la lx e =
-    let both = same_from_place b a y x n la lx (omega (arith, e, mul_comm n b, mul_comm n y)) in
-    (both.1, both.0)
+    grind (arith, same_from_place b a y x n la lx (omega (arith, e, mul_comm n b, mul_comm n y)))
 
 pub tetrads_number-solved : tetrads_number solved_cube ≡ place_set_number 8 first_edges + 70 * corner_index (numbers_from 0 8)
 unfolding solved_cube solved_orbit
@@ -163,9 +156,4 @@ Follows-tetrads =
     (λ c h. corner_index-lt c.corners.pieces h.cube.corners.pieces)
     (λ c r h t. corner_index-turned c.corners.pieces r.corners.pieces h.cube.corners.pieces t.cube.corners.pieces)
     (λ c h. (λ e. e, λ e. e)) in
-    Follows-goals IsDominoCube _ (λ c. tetrads_number c ≡ tetrads_number solved_cube) after tetrads_coordinate tetrads_number
-    (λ c h. (
-      λ e. let home = (IsTetradsHome-iff c h).0 e in (home.first, home.corners),
-      λ d. (IsTetradsHome-iff c h).1 (record { first = d.0; corners = d.1 }),
-    ))
-    (Follows-product IsDominoCube _ _ after _ _ _ _ refl first corners)
+    grind (arith, IsTetradsHome-iff, Follows-product IsDominoCube _ _ after _ _ _ _ refl first corners)

@@ -1,7 +1,7 @@
 -- The index of a list of corners. Relabelling the corners by a list with the index of solved keeps it, and each list is
 -- made so of the one that is kept for its index. So the index after a turn depends on the index alone, and a list with
 -- the index of solved is told by its number.
-use Rattle.std.proofs.Common.{◌≡◌, ℕ, ◌+◌, ◌*◌, ◌/◌, ◌%◌, ◌<◌, not, true, List, ◌++◌, get_or, slice_index, refl, sym, ap, ◌∙◌, subst, lit<, arith}
+use Rattle.std.proofs.Common.{◌≡◌, ℕ, ◌+◌, ◌/◌, ◌<◌, not, true, List, ◌++◌, get_or, slice_index, refl, sym, ap, ◌∙◌, subst, lit<, arith}
 use Rattle.scr_combinatorics.specs.Lists.{pick}
 use Rattle.scr_combinatorics.specs.Permutations.{IsPermutation, is_permutation, inverse}
 use Rattle.scr_combinatorics.specs.PlaceSets.{IsPlaceSet, place_set_number, place_set_at}
@@ -70,9 +70,7 @@ module _ (p : List ℕ) (h : IsPermutation 8 p) where
 
   relation-orders : relation_of p ≡ relation_in_orders first_order second_order
   unfolding relation_of
-  relation-orders =
-      ap (λ xs. relation_number (axes_of xs) (axes_of (pick p (places_in second_tetrad p)))) (sym (pick-order_in first_tetrad p))
-      ∙ ap (λ xs. relation_number (axes_of (pick first_tetrad first_order)) (axes_of xs)) (sym (pick-order_in second_tetrad p))
+  relation-orders = grind (arith, places_in, pick-order_in)
 
   axes_first : IsPermutation 3 (axes_of (pick p (places_in first_tetrad p)))
   axes_first = subst (λ xs. IsPermutation 3 (axes_of xs)) (pick-order_in first_tetrad p) (IsPermutation-axes first_order IsPermutation-first).0
@@ -98,10 +96,7 @@ module _ (p : List ℕ) (h : IsPermutation 8 p) where
       let number = place_set_number 8 places in
       let set : place_set_at 8 4 (corner_index p / 6) ≡ places =
       ap (place_set_at 8 4) (omega (arith, relation-lt)) ∙ place_set_at-number 8 4 places IsPlaceSet-places in
-      let left : corner_index p % 6 ≡ relation = omega (arith, relation-lt) in
-      ap (λ xs. arranged (xs ++ other_places xs) (corners_related (corner_index p % 6))) set
-      ∙ ap (λ xs. arranged (places ++ xs) (corners_related (corner_index p % 6))) other_places-are
-      ∙ ap (λ r. arranged (places ++ places_in second_tetrad p) (corners_related r)) left
+      grind (arith, relation, relation-lt, set, places, other_places-are, places_in)
 
   abbrev pub label_of : ℕ
   label_of = label_number first_order second_order
@@ -156,11 +151,7 @@ module _ (p : List ℕ) (h : IsPermutation 8 p) where
         → axes_of (pick g (pick tetrad (order_in tetrad p))) ≡ pick (axes_turn q) (axes_of (pick tetrad (order_in tetrad p)))
         → axes_of (pick (pick g p) (places_in tetrad (pick g p))) ≡ pick (axes_turn q) (axes_of (pick p (places_in tetrad p)))
     axes-relabelled tetrad same turned =
-        ap (λ places. axes_of (pick (pick g p) places)) same
-        ∙ ap axes_of (pick-pick g p (places_in tetrad p) (All-marked-below (stands_in tetrad) p))
-        ∙ ap (λ xs. axes_of (pick g xs)) (sym (pick-order_in tetrad p))
-        ∙ turned
-        ∙ ap (λ xs. pick (axes_turn q) (axes_of xs)) (pick-order_in tetrad p)
+        grind (arith, pick-pick, places_in, All-marked-below, pick-order_in, axes_turn)
 
     -- those of both alike
     relation-relabelled : relation_of (pick g p) ≡ relation_of p
@@ -173,8 +164,7 @@ module _ (p : List ℕ) (h : IsPermutation 8 p) where
 
     pub corner_index-relabelled : corner_index (pick g p) ≡ corner_index p
     unfolding corner_index
-    corner_index-relabelled =
-        ap_both (λ r places. r + 6 * place_set_number 8 places) relation-relabelled places-relabelled
+    corner_index-relabelled = grind (arith, ap_both, relation-relabelled, places-relabelled)
 
 -- The index after a turn is that which the turn makes of the list that is kept for the index.
 pub corner_index-turned : (p ks : List ℕ) → IsPermutation 8 p → IsPermutation 8 ks

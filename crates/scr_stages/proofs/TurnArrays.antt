@@ -55,12 +55,7 @@ module _ (part : CubeState → Orbit) (block : List ℕ) (numbers : List ℕ) (b
   -- where what turns do to the places of a block is all that they do
   whole_turns : map (λ r. block_turn block (part r)) (all_turns cube_powers) ≡ map part (all_turns cube_powers)
       → map (block_turn block) (map part (turns_of numbers)) ≡ map part (turns_of numbers)
-  whole_turns whole =
-      map-map (block_turn block) part (turns_of numbers)
-      ∙ map-same (λ r. block_turn block (part r)) part (turns_of numbers)
-      (All-map (λ r. block_turn block (part r) ≡ part r) numbered numbers (λ k d lt.
-      at_element (λ r. block_turn block (part r)) part (all_turns cube_powers) whole (get_or numbers k d) solved_cube
-      (omega (arith, length-turns, below k d lt))))
+  whole_turns whole = grind (arith, map-map, map-same, All-map, at_element, length-turns)
 
 -- ---- what turns by numbers do to all corners or edges
 
@@ -78,9 +73,7 @@ module _ (n base : ℕ) (part : CubeState → Orbit)
     (numbers : List ℕ) (below : All (λ t. t < 18) numbers)
     (are : map made_by turns ≡ block_turns (numbers_from 0 n) (map made_by table) numbers) where
   turned-by : map made_by turns ≡ map part (turns_of numbers)
-  turned-by =
-      are ∙ ap (λ all. block_turns (numbers_from 0 n) all numbers) defined
-      ∙ block_turns-parts part (numbers_from 0 n) numbers below ∙ whole_turns part (numbers_from 0 n) numbers below whole
+  turned-by = grind (arith, block_turns-parts, whole_turns)
 
   pub AreTurned-whole : ((r : CubeState) → IsCube r → IsZeroSumOrbit n base (part r)) → (number : ℕ)
       → length numbers ≡ number → 1 ≤ number → number ≤ 256 → AreTurned n base (map part (turns_of numbers)) turns

@@ -11,13 +11,12 @@ use Rattle.scr_orbit.specs.Orbits.{Orbit, turned_orbit, solved_orbit, added_digi
 use Rattle.scr_orbit.specs.PowerPuzzles.{after_letter, all_turns}
 use Rattle.scr_orbit.proofs.PowerLaws.{All-got}
 use Rattle.scr_notation.specs.TurnNumbers.{face_turn_at}
-use Rattle.scr_coord.specs.Projections.{marked_places, stands_in}
 use Rattle.scr_cube.specs.Cube333.{CubeState, IsCube, cube_monoid, cube_powers, solved_cube}
 use Rattle.scr_cube.proofs.Laws333.{lawful_cube}
 use Rattle.scr_cube.proofs.ListedTurns.{length-turns, turn-leads, after_of-is}
 use Rattle.scr_orbit.proofs.TableTests.{All-from_test}
 use Rattle.scr_stages.proofs.FiniteTests.{at_element}
-use Rattle.scr_stages.specs.Stages.{middle_edges, half_turns, slice_turns, domino_turns}
+use Rattle.scr_stages.specs.Stages.{half_turns, slice_turns, domino_turns}
 use Rattle.scr_cube.specs.ListedTurns.{after_of, turn_numbers}
 use Rattle.scr_stages.specs.Numbers.{tetrads_number, IsUnflippedCube, IsDominoCube, IsHalfCube}
 use Rattle.scr_stages.specs.Tables.{turns_of, edges_by, block_turn}
@@ -70,16 +69,7 @@ slice_each k d lt = record {
 
 pub tetrads_each : All IsDominoCube (turns_of domino_turns)
 unfolding all_turns all_powers power turned_orbit solved_cube solved_orbit added_digits
-tetrads_each k d lt =
-    let turns = turns_of domino_turns in
-    record {
-      cube = All-turns domino_turns tetrads_numbers k d lt;
-      domino = record {
-        no_flips = at_element (λ r. r.edges.digits) (λ r. zeros 12) turns refl k d lt;
-        no_twists = at_element (λ r. r.corners.digits) (λ r. zeros 8) turns refl k d lt;
-        middle = at_element (λ r. marked_places (stands_in middle_edges) r.edges.pieces) (λ r. middle_edges) turns refl k d lt;
-      };
-    }
+tetrads_each k d lt = grind (arith, All-turns domino_turns tetrads_numbers k d lt, at_element)
 
 -- half turns stand at these places among the turns of a domino
 halves_among : All IsDominoCube (turns_of half_turns)

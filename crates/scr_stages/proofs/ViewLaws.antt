@@ -1,6 +1,6 @@
 -- Views of states by numbers go along with turns, where the number of a turned state is that which the turn makes of
 -- the list that is kept for the number. No puzzle stands here.
-use Rattle.std.proofs.Common.{◌≡◌, ℕ, ◌<◌, Bool, true, false, cond, List, map, length, Option, Some, None, refl, sym, ap, ◌∙◌, subst}
+use Rattle.std.proofs.Common.{◌≡◌, ℕ, ◌<◌, Bool, cond, List, map, length, Option, Some, None, refl, sym, ap, ◌∙◌, subst, arith}
 use Rattle.std.specs.Prelude.{All, nat_lt, slice_get, ◌↔◌}
 use Rattle.std.specs.Option.{option_map}
 use Rattle.std.proofs.lemmas.Bool.{eq-eqb, eqb-true, ltb-false}
@@ -33,15 +33,12 @@ module _ {S : Type 0} {turned : S → S → S} {turns : List S} {after : S → �
     (goals : (s : S) → IsValid s → IsGoal s ↔ (view s ≡ v.number_of v.goal)) where
   step_by : (s : S) (o : Option S) → IsValid s → ((r : S) → o ≡ Some r → IsValid r)
       → option_map (λ r. v.number_of (v.turned (v.list_at (view s)) r)) (option_map part o) ≡ option_map view (option_map (turned s) o)
-  step_by s None h turns = refl
-  step_by s (Some r) h turns = ap Some (steps s r h (turns r refl))
+  step_by s o h0 h1 = grind arith
 
   -- there is none past the last
   guarded : (f : Orbit → ℕ) (t : ℕ) (b : Bool) → nat_lt t (length (map part turns)) ≡ b
       → cond b (option_map f (slice_get (map part turns) t)) None ≡ option_map f (option_map part (slice_get turns t))
-  guarded f t true e = ap (option_map f) (slice_get-map part turns t)
-  guarded f t false e =
-      ap (option_map f) (sym (slice_get_past (map part turns) t (ltb-false t (length (map part turns)) e)) ∙ slice_get-map part turns t)
+  guarded f t b h0 = grind (arith, slice_get-map, slice_get_past, ltb-false)
 
   pub Follows-viewed : Follows (record { IsValid = IsValid; after = after; IsGoal = IsGoal }) (positions (projection v (map part turns))) view
   Follows-viewed = record {

@@ -3,7 +3,6 @@ use Rattle.std.proofs.Common.{◌≡◌, ◌≢◌, ℕ, ◌+◌, ◌*◌, ◌/�
 use Rattle.std.specs.Prelude.{slice_index_or, nat_eq, ◌&&◌, if◌then◌else◌}
 use Rattle.std.specs.Bool.{OnTrue, OnFalse}
 use Rattle.std.proofs.lemmas.Bool.{ne_eqb}
-use Rattle.std.proofs.Math.Nat.{div-add-mod}
 use Rattle.scr_positions.specs.Coordinates.{Coordinate, StaysBelow}
 use Rattle.scr_workers.specs.Answered.{AreAnswered}
 use Rattle.scr_table.specs.Filled.{AreKnown, AreMarked, IsLeastNeighbour, Agrees, IsAgreed, IsNextEntry, next_entry, OfBlock, IsNextBlock, IsCheckedBlock, IsBlockBehind, IsThere, block_count, entered_at, entered}
@@ -25,10 +24,7 @@ block_of n p lt = omega arith
 
 -- what is so of the positions of a block, at one of them
 at_place : (P : ℕ → ℕ → Type 0) (n p : ℕ) → p < n → OfBlock P n (p / 1024) → P p (p % 1024)
-at_place P n p lt each =
-    let same : 1024 * (p / 1024) + p % 1024 ≡ p = div-add-mod p 1024 in
-    let Q : ℕ → Type 0 = λ q. P q (p % 1024) in
-    subst Q same (each (p % 1024) (omega arith) (omega (arith, same, lt)))
+at_place P n p lt each = grind arith
 
 module _ (c : Coordinate) (level : ℕ) (entries : List ℕ) (p : ℕ) (lt : p < length entries) where
   next_at : (o : Option (Option (List ℕ))) → IsSomeAnd o (IsNextBlock c level entries (p / 1024))

@@ -1,7 +1,7 @@
 -- Each position of a table that measures a coordinate has a first word.
 use Rattle.std.proofs.Common.{◌≡◌, ℕ, zero, suc, ◌+◌, ◌<◌, ◌⊎◌, inl, inr, Bool, true, false, eqb, List, [], ◌∷◌, get_or, Option, Some, None, refl, sym, ap, ◌∙◌, add-one, arith}
 use Rattle.std.proofs.Math.Bool.{Bool-set}
-use Rattle.std.proofs.lemmas.Bool.{cases_lt, eqb-true, eq-eqb}
+use Rattle.std.proofs.lemmas.Bool.{cases_lt}
 use Rattle.scr_positions.specs.Coordinates.{Coordinate, moved, IsGoal}
 use Rattle.scr_combinatorics.specs.FirstWord.{IsFirstWord, LowersFirst}
 use Rattle.scr_combinatorics.proofs.FirstWordLaws.{IsGoal-distance, IsFirstWord-goal, IsFirstWord-cons}
@@ -43,15 +43,12 @@ module _ (c : Coordinate) (table : Distances) (measures : Measures c table) wher
   leads_to-some : (lower : ℕ) (o : Option ℕ) → leads_to lower o ≡ true
       → (q : ℕ) × (o ≡ Some q) × (get_or table.distances q 0 ≡ lower)
   unfolding leads_to
-  leads_to-some lower None is = absurd (cc)
-  leads_to-some lower (Some q) is = (q, refl, eqb-true (get_or table.distances q 0) lower is)
+  leads_to-some lower o h0 = grind arith
 
   leads_to-none : (lower q : ℕ) (o : Option ℕ) → leads_to lower o ≡ false → o ≡ Some q
       → get_or table.distances q 0 ≡ lower → ⊥
   unfolding leads_to
-  leads_to-none lower q o not is here =
-      let there : leads_to lower o ≡ true = ap (leads_to lower) is ∙ eq-eqb (get_or table.distances q 0) lower here in
-      cc
+  leads_to-none lower q o not is here = grind arith
 
   -- where an entry isn't 0, some turn is the first that lowers the distance
   pub first_lowering : (p lower : ℕ) → p < c.count → get_or table.distances p 0 ≡ lower + 1

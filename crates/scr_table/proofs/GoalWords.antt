@@ -205,10 +205,7 @@ module _ (c : Coordinate) where
         let P : ℕ → Type 0 = λ d. IsDistance (moved c) (IsGoal c) p d in
         let zero_there : get_or table.distances p 0 ≡ 0 = omega arith in
         let goal = IsGoal-distance (moved c) (IsGoal c) p (Bool-set (c.is_goal p) true) (subst P zero_there (m.exact p lt)) in
-        sym
-        (ap (λ n. take wanted (found ++ goal_words_behind c p word n)) none
-        ∙ ap (λ ws. take wanted (found ++ ws)) (goal_words-here p word goal)
-        ∙ take_all wanted (found ++ word ∷ []) (omega (arith, length-append found (word ∷ []))))
+        grind (arith, goal_words-here, goal, take_all, length-append)
 
     -- lengths below the distance have no words
     pub goal_words-skipped : (p most : ℕ) → p < c.count

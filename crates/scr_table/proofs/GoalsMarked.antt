@@ -1,5 +1,5 @@
 -- Goals that are marked one after another among entries that are not known yet.
-use Rattle.std.proofs.Common.{◌≡◌, ℕ, ◌+◌, ◌<◌, ◌≤◌, true, false, List, length, length-set, get_or, get_or-set_other, inl, inr, sym, ◌∙◌, subst, arith}
+use Rattle.std.proofs.Common.{◌≡◌, ℕ, ◌+◌, ◌<◌, ◌≤◌, true, false, List, length, length-set, get_or, get_or-set_other, inl, inr, sym, subst, arith}
 use Rattle.std.proofs.Math.ListN.{set}
 use Rattle.std.proofs.lemmas.Bool.{cases_lt}
 use Rattle.scr_positions.specs.Coordinates.{Coordinate, HasNoGoal, IsNextGoal}
@@ -27,13 +27,12 @@ pub AreMarkedBelow-next : (c : Coordinate) (from goal : ℕ) (entries : List ℕ
     → IsNextGoal c from goal → AreMarkedBelow c (goal + 1) (set entries goal 0)
 AreMarkedBelow-next c from goal entries h next =
     let inside : goal < length entries = omega (arith, next.below, h.positions) in
-    record {
-      positions = length-set entries goal 0 ∙ h.positions;
-      inside = omega (arith, next.below);
-      below = each_written (IsKnown c 0) entries goal 0 inside (skipped c from goal entries (omega (arith, next.below)) h next.first)
-          (IsKnown-marked c goal true next.goal);
-      unknown = λ p late lt. get_or-set_other entries goal p 0 0 (λ e. omega arith) ∙ h.unknown p (omega (arith, next.from_on)) lt;
-    }
+    grind (
+      arith,
+      length-set entries goal 0,
+      each_written (IsKnown c 0) entries goal 0 inside (skipped c from goal entries (omega (arith, next.below)) h next.first) (IsKnown-marked c goal true next.goal),
+      get_or-set_other,
+    )
 
 pub AreKnown-marked : (c : Coordinate) (from : ℕ) (entries : List ℕ) → AreMarkedBelow c from entries
     → HasNoGoal c from c.count → AreKnown c 0 entries

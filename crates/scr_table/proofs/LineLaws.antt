@@ -1,6 +1,5 @@
 -- What is so of the lines of tables that are built one after another.
 use Rattle.std.proofs.Common.{◌≡◌, ℕ, zero, suc, List, [], ◌∷◌, ◌++◌, append_assoc, refl, ap, ◌∙◌, subst, sym, arith}
-use Rattle.std.proofs.Props.{props}
 use Rattle.std.proofs.Math.Logic.{∥∥₁_elim}
 use Rattle.std.proofs.lemmas.List.Elements.{All-append, All-nil, All-cons}
 use Rattle.std.specs.Prelude.{All, Contains, Result, Ok, Err, IfErr, IsErrAnd}
@@ -94,13 +93,6 @@ IfErr-cause built line more none fault r handed cause =
     IfErr-handed (IsCauseOf (built ++ line ∷ more)) fault r handed
     (IsCauseOf-behind built (line ∷ more) fault none
     (IsCauseOf-before (line ∷ []) more fault (IsCauseOf-one line fault cause)))
-
--- that tables are those of some lines is a proposition
-pub AreTablesOf-prop : (lines : List TableLine) (tables : List Distances) → IsProp (AreTablesOf lines tables)
-AreTablesOf-prop [] [] = hlevel props
-AreTablesOf-prop [] (table ∷ tables) = hlevel props
-AreTablesOf-prop (line ∷ lines) [] = hlevel props
-AreTablesOf-prop (line ∷ lines) (table ∷ tables) = hlevel (props, AreTablesOf-prop lines tables)
 
 -- among the tables of some lines stands that of each
 pub table_of_line : (lines : List TableLine) (tables : List Distances) → AreTablesOf lines tables → (line : TableLine)

@@ -1,11 +1,10 @@
 -- Which words are listed, and which of them pass a test.
-use Rattle.std.proofs.Common.{◌≡◌, ℕ, zero, suc, ◌+◌, ◌<◌, ◌≤◌, Bool, true, false, cond, List, [], ◌∷◌, map, length}
+use Rattle.std.proofs.Common.{◌≡◌, ℕ, zero, suc, ◌+◌, ◌<◌, ◌≤◌, Bool, true, false, cond, List, [], ◌∷◌, map, length, arith}
 use Rattle.std.proofs.Common.{get_or, Option, Some, refl, sym, ap, ◌∙◌, subst, arith}
 use Rattle.std.specs.Prelude.{All, Contains, IsSome, filter, find, slice_index_or}
 use Rattle.std.specs.List.{flat_map}
-use Rattle.std.proofs.lemmas.Bool.{false≢true}
 use Rattle.std.proofs.lemmas.List.{length-map, get_or-map, get_or_default}
-use Rattle.std.proofs.lemmas.List.Elements.{All-nil, All-cons, All-head, All-tail, All-weaker, All-contains}
+use Rattle.std.proofs.lemmas.List.Elements.{All-nil, All-head, All-tail, All-weaker, All-contains}
 use Rattle.std.proofs.lemmas.List.Elements.{All-contains_itself, Contains-append_left, Contains-append_right}
 use Rattle.scr_combinatorics.specs.Lists.{numbers_from}
 use Rattle.scr_combinatorics.proofs.Picks.{length-numbers_from, numbers_from-at, length-pick, All-pick}
@@ -17,8 +16,7 @@ use Rattle.scr_table.proofs.WordLists.{IsWordOf, words_of-each, All-flat_map}
 Contains-flat_map : {X A : Type 0} (f : X → List A) (xs : List X) (x : X) (a : A) → Contains xs x → Contains (f x) a
     → Contains (flat_map f xs) a
 Contains-flat_map f [] x a (k, lt, e) h = absurd (omega arith)
-Contains-flat_map f (y ∷ xs) x a (zero, lt, e) h =
-    Contains-append_left (f y) (flat_map f xs) a (subst (λ z. Contains (f z) a) (sym e) h)
+Contains-flat_map f (y ∷ xs) x a (zero, lt, e) h = grind (arith, Contains-append_left)
 Contains-flat_map f (y ∷ xs) x a (suc k, lt, e) h =
     Contains-append_right (f y) (flat_map f xs) a (Contains-flat_map f xs x a (k, omega arith, e) h)
 
@@ -94,21 +92,16 @@ All-numbers n w below k d lt = Contains-numbers n (slice_index_or w k d) (below 
 
 pub All-below : (n : ℕ) (w : List ℕ) → All (Contains (numbers_from 0 n)) w → All (λ t. t < n) w
 All-below n w each k d lt =
-    let there = each k d lt in
-    let t : ℕ = slice_index_or w k d in
-    let below : there.0 < n = omega (arith, there.1, length-numbers_from 0 n) in
-    let is : t ≡ there.0 =
-    sym there.2 ∙ get_or_default (numbers_from 0 n) there.0 t 0 there.1 ∙ numbers_from-at 0 n there.0 below
-    ∙ omega arith in
-    omega (arith, is, below)
+    grind (
+      arith,
+      length-numbers_from 0 n,
+      get_or_default (numbers_from 0 n) (each k d lt).0 (slice_index_or w k d) 0 (each k d lt).1,
+      numbers_from-at,
+    )
 
 -- ---- tests
 
 module _ {X : Type 0} (test : X → Bool) where
-  kept_first : (b : Bool) (x : X) (xs : List X) → b ≡ true → Contains (let ys : List X = cond b (x ∷ xs) xs in ys) x
-  kept_first true x xs e = (0, omega arith, refl)
-  kept_first false x xs e = absurd (false≢true e)
-
   kept_later : (b : Bool) (y x : X) (xs : List X) → Contains xs x
       → Contains (let ys : List X = cond b (y ∷ xs) xs in ys) x
   kept_later true y x xs (k, lt, e) = (suc k, omega arith, e)
@@ -116,38 +109,30 @@ module _ {X : Type 0} (test : X → Bool) where
 
   pub Contains-filter : (xs : List X) (x : X) → Contains xs x → test x ≡ true → Contains (filter test xs) x
   Contains-filter [] x (k, lt, e) passes = absurd (omega arith)
-  Contains-filter (y ∷ xs) x (zero, lt, e) passes =
-      subst (λ z. Contains (filter test (z ∷ xs)) x) (sym e) (kept_first (test x) x (filter test xs) passes)
+  Contains-filter (y ∷ xs) x (zero, lt, e) passes = grind arith
   Contains-filter (y ∷ xs) x (suc k, lt, e) passes =
       kept_later (test y) y x (filter test xs) (Contains-filter xs x (k, omega arith, e) passes)
 
   kept_each : (b : Bool) (P : X → Type 0) (x : X) (xs : List X) → (b ≡ true → P x) → All P xs
       → All P (let ys : List X = cond b (x ∷ xs) xs in ys)
-  kept_each true P x xs h rest = All-cons P x xs (h refl) rest
-  kept_each false P x xs h rest = rest
+  kept_each b P x xs h0 h1 = grind arith
 
   filter-each : (P : X → Type 0) (xs : List X) → All P xs → All (λ x. P x × (test x ≡ true)) (filter test xs)
   filter-each P [] each = All-nil (λ x. P x × (test x ≡ true))
-  filter-each P (x ∷ xs) each =
-      kept_each (test x) (λ y. P y × (test y ≡ true)) x (filter test xs) (λ e. (All-head P x xs each, e))
-      (filter-each P xs (All-tail P x xs each))
+  filter-each P (x ∷ xs) each = grind (arith, kept_each, All-head, All-tail, filter-each P xs (All-tail P x xs each))
 
   -- what passes is one of the list, and passes
   pub Contains-passed : (xs : List X) (x : X) → Contains (filter test xs) x → Contains xs x × (test x ≡ true)
-  Contains-passed xs x there =
-      All-contains (λ y. Contains xs y × (test y ≡ true)) (filter test xs) x
-      (filter-each (Contains xs) xs (All-contains_itself xs)) there
+  Contains-passed xs x there = grind (arith, All-contains, filter-each (Contains xs) xs (All-contains_itself xs))
 
   -- the first that passes
   IsSome-kept : (b : Bool) (x : X) (o : Option X) → (b ≡ false → IsSome o)
       → IsSome (let p : Option X = cond b (Some x) o in p)
-  IsSome-kept true x o h = refl
-  IsSome-kept false x o h = h refl
+  IsSome-kept b x o h0 = grind arith
 
   pub IsSome-find : (xs : List X) (x : X) → Contains xs x → test x ≡ true → IsSome (find test xs)
   IsSome-find [] x (k, lt, e) passes = absurd (omega arith)
-  IsSome-find (y ∷ xs) x (zero, lt, e) passes =
-      IsSome-kept (test y) y (find test xs) (λ fails. absurd (false≢true (sym fails ∙ ap test e ∙ passes)))
+  IsSome-find (y ∷ xs) x (zero, lt, e) passes = grind arith
   IsSome-find (y ∷ xs) x (suc k, lt, e) passes =
       IsSome-kept (test y) y (find test xs) (λ fails. IsSome-find xs x (k, omega arith, e) passes)
 

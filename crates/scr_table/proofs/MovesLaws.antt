@@ -1,7 +1,7 @@
 -- Looking at all short words, but for those that go on idly.
 use Rattle.std.proofs.Common.{◌≡◌, ℕ, ◌+◌, ◌<◌, List, [], ◌∷◌, ◌++◌, length, ◌⊎◌, inl, inr, Option, Some, None, true, false, ◌-◌, refl, sym, ap, ◌∙◌, subst, length-append, arith}
-use Rattle.std.specs.Prelude.{nat_lt, if◌then◌else◌}
-use borrow.Author.Tests.{ltb-true, lt-ltb}
+use Rattle.std.specs.Prelude.{if◌then◌else◌}
+use borrow.Author.Tests.{lt-ltb}
 use Rattle.std.proofs.lemmas.Bool.{cases_order, cases_lt}
 use Rattle.scr_combinatorics.specs.Play.{count_in}
 use Rattle.scr_combinatorics.specs.Reach.{Needs}
@@ -9,14 +9,11 @@ use Rattle.scr_combinatorics.specs.FirstWord.{LeadsTo}
 use Rattle.scr_combinatorics.proofs.PlayLaws.{play-append}
 use Rattle.scr_combinatorics.proofs.FirstWordLaws.{IsGoal-empty, LeadsTo-empty, LeadsTo-cons, LeadsTo-parts}
 use Rattle.scr_table.specs.Moves.{MoveSet, after_move, move_puzzle, IsSolved, NeedsTurns, HasWordWithin, HasShorter, BeginsIdly, AreLeftOut}
-use Rattle.scr_table.proofs.StepLaws.{taken_where}
 
 module _ {S : Type 0} (m : MoveSet S) where
   -- a turn that leads somewhere is one of the puzzle's, and not refused
   pub turned-turn : (s r : S) (t : ℕ) → after_move m s t ≡ Some r → (t < m.count) × (m.after s t ≡ Some r)
-  turned-turn s r t e =
-      let parts = taken_where (nat_lt t m.count) (m.after s t) r e in
-      (ltb-true t m.count parts.0, parts.1)
+  turned-turn s r t e = grind arith
 
   -- Of words of at most so many turns that lead to solved, those that begin with a turn below one are looked at: each
   -- can be made shorter, or goes on idly from the turn before.
@@ -33,11 +30,7 @@ module _ {S : Type 0} (m : MoveSet S) where
       let first = LeadsTo-parts (after_move m) (IsSolved m) s t (u ∷ x) (subst P same l) in
       let second = LeadsTo-parts (after_move m) (IsSolved m) first.0 u x first.2 in
       let short = idle s first.0 second.0 first.1 second.1 in
-      let leads : LeadsTo (after_move m) (IsSolved m) s (short.0 ++ x) = record {
-        end = second.2.end;
-        played = play-append (after_move m) s second.0 short.0 x short.2 ∙ second.2.played;
-        goal = second.2.goal;
-      } in
+      let leads : LeadsTo (after_move m) (IsSolved m) s (short.0 ++ x) = grind (arith, play-append) in
       (short.0 ++ x, leads, simp length-append (omega (arith, short.1, ap length same)))
 
   -- a word whose rest can be made shorter, or goes on idly from its first turn, can be made shorter
@@ -106,11 +99,8 @@ module _ {S : Type 0} (m : MoveSet S) where
   -- where the empty word doesn't lead to solved, all words are looked at once each turn is tried
   pub AreLeftOut-tried : (s : S) (before : Option ℕ) (most : ℕ) → m.is_solved s ≡ false → AreTried s before most m.count
       → AreLeftOut m s before most
-  AreLeftOut-tried s before most unsolved tried [] l short =
-      let solved : m.is_solved s ≡ true = IsGoal-empty (after_move m) (IsSolved m) s l in absurd (cc)
-  AreLeftOut-tried s before most unsolved tried (t ∷ w) l short =
-      let parts = LeadsTo-parts (after_move m) (IsSolved m) s t w l in
-      tried t w (turned-turn s parts.0 t parts.1).0 l (omega arith)
+  AreLeftOut-tried s before most unsolved tried [] l short = cc (IsGoal-empty (after_move m) (IsSolved m) s l)
+  AreLeftOut-tried s before most unsolved tried (t ∷ w) l short = grind (arith, LeadsTo-parts, turned-turn)
 
   pub AreLeftOut-unsolved : (s : S) (before : Option ℕ) → m.is_solved s ≡ false → AreLeftOut m s before 0
   AreLeftOut-unsolved s before unsolved = AreLeftOut-tried s before 0 unsolved (λ t w lt l short. absurd (omega arith))
@@ -123,8 +113,7 @@ module _ {S : Type 0} (m : MoveSet S) where
 
   -- the minima are those of the puzzle whose turns each count for one
   pub Needs-turns : (s : S) (least : ℕ) → NeedsTurns m s least → Needs (move_puzzle m) s least
-  Needs-turns s least h = λ w end less played solved.
-      omega (arith, count_in-length w, h w (record { end = end; played = played; goal = solved }))
+  Needs-turns s least h = grind (arith, count_in-length)
 
   pub NeedsTurns-needs : (s : S) (least : ℕ) → Needs (move_puzzle m) s least → NeedsTurns m s least
   NeedsTurns-needs s least h = λ w l.

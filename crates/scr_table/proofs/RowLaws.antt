@@ -1,5 +1,5 @@
 -- The row of positions, worked by hand.
-use Rattle.std.proofs.Common.{◌≡◌, ℕ, zero, suc, ◌+◌, ◌-◌, ◌<◌, ◌≤◌, Bool, true, false, List, [], ◌∷◌, length, get_or, Some, None, refl, arith}
+use Rattle.std.proofs.Common.{◌≡◌, ℕ, zero, suc, ◌+◌, ◌-◌, ◌<◌, ◌≤◌, Bool, List, [], ◌∷◌, length, get_or, Some, None, refl, arith}
 use Rattle.std.specs.Prelude.{if◌then◌else◌, ◌==◌}
 use borrow.Author.Tests.{eqb-true}
 use Rattle.scr_positions.specs.Coordinates.{StaysBelow, moved, IsGoal}
@@ -11,16 +11,14 @@ use Rattle.scr_table.proofs.StepLaws.{moved-turn}
 
 -- turns lead from positions to positions
 before_stays : (n p q : ℕ) (first : Bool) → p < n → (if first then None else Some (p - 1)) ≡ Some q → q < n
-before_stays n p q true lt e = absurd (cc)
-before_stays n p q false lt e = let same : p - 1 ≡ q = cc in omega arith
+before_stays n p q first h0 h1 = grind arith
 
 pub row_stays : (n : ℕ) → StaysBelow (row_coordinate n)
 row_stays n = λ p t q lt turn e. before_stays n p q (p == 0) lt e
 
 -- a turn leads down by one
 step_down : (p q : ℕ) (first : Bool) → (if first then None else Some (p - 1)) ≡ Some q → p ≤ q + 1
-step_down p q true e = absurd (cc)
-step_down p q false e = let same : p - 1 ≡ q = cc in omega arith
+step_down p q first h0 = grind arith
 
 -- no word from a position is shorter than its number
 pub row_least : (n p : ℕ) (w : List ℕ) → LeadsTo (moved (row_coordinate n)) (IsGoal (row_coordinate n)) p w
@@ -52,10 +50,7 @@ row_distance (suc (suc (suc p))) lt = absurd (omega arith)
 
 -- the numbers of the three, read in a list
 pub row_entry : (p : ℕ) → p < 3 → get_or (0 ∷ 1 ∷ 2 ∷ []) p 0 ≡ p
-row_entry zero lt = refl
-row_entry (suc zero) lt = refl
-row_entry (suc (suc zero)) lt = refl
-row_entry (suc (suc (suc p))) lt = absurd (omega arith)
+row_entry p h0 = grind arith
 
 -- the first word from each of the three
 pub row_first_word : IsFirstWord (moved (row_coordinate 3)) (IsGoal (row_coordinate 3)) 2 (0 ∷ 0 ∷ [])

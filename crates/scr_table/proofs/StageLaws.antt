@@ -28,11 +28,7 @@ module _ {S T : Type 0} (after : S → T → Option S) (stage : Stage S T) (IsVa
         let at = follows.valid s v in
         let exact = IsDistance-unique (moved c) (IsGoal c) (view s) (length w) (slice_index table.distances (view s))
         (IsDistance-first (moved c) (IsGoal c) (view s) w h) (built.measures.exact (view s) at) in
-        let finds = FindsTheSame-follows (stage_space after stage IsValid) (positions c) view follows in
-        record {
-          first = (finds.first_words s w v).1 h;
-          within = omega (arith, exact, built.measures.within (view s) at, built.bound);
-        }
+        grind (arith, FindsTheSame-follows (stage_space after stage IsValid) (positions c) view follows, exact, at)
 
     -- and there is one
     pub stage_word : (s : S) → IsValid s → (w : List ℕ) × IsStageWord after stage s w

@@ -9,13 +9,7 @@ use Rattle.scr_table.specs.Halves.{AreBlocksOf, AreRising, AreStored, Deep, Stan
 pub each_pushed : {X : Type 0} (P : ℕ → X → Type 0) (xs : List X) (x d : X)
     → ((i : ℕ) → i < length xs → P i (get_or xs i d)) → P (length xs) x
     → (i : ℕ) → i < length (xs ++ x ∷ []) → P i (get_or (xs ++ x ∷ []) i d)
-each_pushed P xs x d before here i lt =
-    elim (cases_lt i (length xs)) [
-      | inl inside ↦ subst (P i) (sym (get_or_append_left xs (x ∷ []) d i inside)) (before i inside)
-      | inr past ↦
-          let last : length xs ≡ i = omega (arith, length-append xs (x ∷ [])) in
-          subst (P i) (sym (get_or_push xs x d i last)) (subst (λ k. P k x) last here)
-    ]
+each_pushed P xs x d before here i lt = grind (arith, cases_lt, get_or_append_left, length-append, get_or_push)
 
 -- ---- the list of deep positions
 
@@ -48,8 +42,7 @@ AreBelow-more n d deep h = record {
 }
 
 AreBelow-deep : (ds : List ℕ) (n : ℕ) → AreBelow n (deep_below ds n)
-AreBelow-deep ds zero =
-    rw deep_below-none (record { below = λ i lt. absurd (omega arith); rising = λ i j before lt. absurd (omega arith) })
+AreBelow-deep ds zero = grind (arith, deep_below-none)
 AreBelow-deep ds (suc n) =
     let h = AreBelow-deep ds n in
     rw (sym (add-one n)) (elim (cases_lt (get_or ds n 0) 14) [
@@ -73,8 +66,7 @@ found ds (suc n) p lt deep =
           let one : more ≡ (p, get_or ds p 0) ∷ [] = rw (sym last) (rw le-leb refl) in
           rw one (length before, omega (arith, length-append before ((p, get_or ds p 0) ∷ [])), get_or_push before _ _ _ refl)
       | inr other ↦
-          let (i, lt, is) = found ds n p (omega arith) deep in
-          (i, omega (arith, length-append before more), get_or_append_left before more (0, 0) i lt ∙ is)
+          grind (arith, length-append, get_or_append_left, found ds n p (omega arith) deep)
     ]
 
 -- the distance in a list of deep positions that rise is that beside the position
@@ -101,8 +93,7 @@ module _ (ds : List ℕ) (blocks : List (List ℕ)) (deep : List Deep) (halves :
   distance_is =
       elim (cases_lt (get_or ds p 0) 14) [
         | inl small ↦
-            let other : half_byte_at blocks p ≢ 14 = omega (arith, half_is) in
-            rw (ne_eqb (half_byte_at blocks p) 14 other) (omega (arith, half_is))
+            grind (arith, half_is, ne_eqb)
         | inr large ↦
             let marked : half_byte_at blocks p ≡ 14 = omega (arith, half_is) in
             let (i, lt, at) = found_by_half marked in
@@ -121,9 +112,7 @@ stored_is ds blocks deep halves is =
 
 pub AreStored-stored : (ds : List ℕ) (blocks : List (List ℕ)) (deep : List Deep) → AreBlocksOf ds blocks
     → deep ≡ deep_of ds → AreStored (stored (length ds) blocks deep) (length ds) blocks deep
-AreStored-stored ds blocks deep halves is =
-    subst (λ s. AreStored s (length ds) blocks deep) (sym (stored_is ds blocks deep halves is))
-    (record { count = refl; in_blocks = halves; deep_ones = is })
+AreStored-stored ds blocks deep halves is = grind (arith, stored_is)
 
 -- what a reader of a slice of blocks and a slice of deep positions finds at a position whose half byte is the mark
 pub found_stored : (s ds : List ℕ) (n p half : ℕ) (blocks read : List (List ℕ)) (deep listed : List Deep)

@@ -1,5 +1,5 @@
 -- The test that tries all turns is exact.
-use Rattle.std.proofs.Common.{◌≡◌, ℕ, zero, suc, ◌<◌, ◌≤◌, inl, inr, Bool, true, false, IsTrue, List, [], ◌∷◌, length, Option, Some, None, refl, sym, ap, ◌∙◌, arith}
+use Rattle.std.proofs.Common.{◌≡◌, ℕ, zero, suc, ◌<◌, ◌≤◌, inl, inr, Bool, IsTrue, List, [], ◌∷◌, length, Option, Some, refl, sym, ap, ◌∙◌, arith}
 use Rattle.std.specs.Prelude.{◌↔◌, ◌||◌, not}
 use Rattle.std.specs.List.{list_any}
 use Rattle.std.proofs.lemmas.Bool.{cases_lt, or_cases, false≢true}
@@ -13,20 +13,16 @@ use Rattle.scr_table.specs.TriedWords.{passes, leads_within, needs_test}
 
 passed : {S : Type 0} (test : S → Bool) (o : Option S) → IsTrue (passes test o)
     → (r : S) × (o ≡ Some r) × IsTrue (test r)
-passed test None t = absurd (false≢true t)
-passed test (Some r) t = (r, refl, t)
+passed test o h0 = grind arith
 
 or_second : (a b : Bool) → IsTrue b → IsTrue (a || b)
-or_second true b t = refl
-or_second false b t = t
+or_second a b h0 = grind arith
 
 or_first : (a b : Bool) → IsTrue a → IsTrue (a || b)
-or_first true b t = refl
-or_first false b t = absurd (false≢true t)
+or_first a b h0 = grind arith
 
 none_found : (b : Bool) → (IsTrue b → ⊥) → IsTrue (not b)
-none_found true no_word = absurd (no_word refl)
-none_found false no_word = refl
+none_found b h0 = grind arith
 
 any_number : (p : ℕ → Bool) (n t : ℕ) → t < n → IsTrue (p t) → IsTrue (list_any p (numbers_from 0 n))
 any_number p n t lt passes_it =
@@ -92,6 +88,4 @@ module _ {S : Type 0} (turns : ℕ) (after : S → ℕ → Option S) (is_solved 
 
 -- two truths that hold of the same are the same
 pub same_truth : (P : Type 0) (a b : Bool) → IsTrue a ↔ P → IsTrue b ↔ P → a ≡ b
-same_truth P true b f g = sym (g.1 (f.0 refl))
-same_truth P false true f g = f.1 (g.0 refl)
-same_truth P false false f g = refl
+same_truth P a b h0 h1 = grind arith

@@ -1,11 +1,10 @@
 -- The words behind a word: what a search goes through, turn by turn.
-use Rattle.std.proofs.Common.{◌≡◌, ℕ, zero, suc, ◌+◌, ◌-◌, ◌<◌, ◌≤◌, Bool, true, false, cond, List, [], ◌∷◌, ◌++◌, map, length}
-use Rattle.std.proofs.Common.{get_or, take, Option, Some, inl, inr, refl, sym, ap, ◌∙◌, append_assoc, length-append, arith}
+use Rattle.std.proofs.Common.{◌≡◌, ℕ, zero, suc, ◌+◌, ◌-◌, ◌<◌, ◌≤◌, Bool, false, cond, List, [], ◌∷◌, ◌++◌, map, length, arith}
+use Rattle.std.proofs.Common.{get_or, take, Option, Some, refl, sym, ap, ◌∙◌, append_assoc, length-append, arith}
 use Rattle.std.specs.Prelude.{All, Contains, filter, find, slice_get}
 use Rattle.std.specs.List.{flat_map}
 use Rattle.std.specs.Option.{option_map}
 use Rattle.std.proofs.Math.Seq.{take-append_seam}
-use Rattle.std.proofs.lemmas.Bool.{cases_lt}
 use Rattle.std.proofs.lemmas.List.{append-nil, map-append, get_or_default}
 use Rattle.std.proofs.lemmas.List.Elements.{All-nil, All-cons, All-head, All-tail, All-append, All-contains, All-map, All-weaker}
 use Rattle.std.proofs.lemmas.List.Elements.{All-contains_itself, filter-append}
@@ -32,8 +31,7 @@ map-flat_map g f (x ∷ xs) = map-append g (f x) (flat_map f xs) ∙ ap (λ ys. 
 
 pub flat_map-same : {X A : Type 0} (f g : X → List A) → ((x : X) → f x ≡ g x) → (xs : List X)
     → flat_map f xs ≡ flat_map g xs
-flat_map-same f g h [] = refl
-flat_map-same f g h (x ∷ xs) = ap (λ ys. ys ++ flat_map f xs) (h x) ∙ ap (λ ys. g x ++ ys) (flat_map-same f g h xs)
+flat_map-same f g h0 xs = grind arith
 
 pub All-flat_map : {X A : Type 0} (P : A → Type 0) (f : X → List A) (xs : List X) → All (λ x. All P (f x)) xs
     → All P (flat_map f xs)
@@ -43,8 +41,7 @@ All-flat_map P f (x ∷ xs) h =
 
 kept_by : {X A : Type 0} (f : X → List A) (b : Bool) (x : X) (xs kept : List X) → (b ≡ false → f x ≡ [])
     → flat_map f xs ≡ flat_map f kept → flat_map f (x ∷ xs) ≡ flat_map f (cond b (x ∷ kept) kept)
-kept_by f true x xs kept h e = ap (λ ys. f x ++ ys) e
-kept_by f false x xs kept h e = ap (λ ys. ys ++ flat_map f xs) (h refl) ∙ e
+kept_by f b x xs kept h0 h1 = grind arith
 
 -- elements that come to nothing can be left out
 pub flat_map-kept : {X A : Type 0} (f : X → List A) (keep : X → Bool) (xs : List X)
@@ -56,8 +53,7 @@ flat_map-kept f keep (x ∷ xs) h =
 
 found_by : {X : Type 0} (b : Bool) (x : X) (o : Option X) (xs : List X) → o ≡ slice_get xs 0
     → cond b (Some x) o ≡ slice_get (cond b (x ∷ xs) xs) 0
-found_by true x o xs e = refl
-found_by false x o xs e = e
+found_by b x o xs h0 = grind arith
 
 -- the first that passes is the first of those that pass
 pub find-filter : {X : Type 0} (test : X → Bool) (xs : List X) → find test xs ≡ slice_get (filter test xs) 0
@@ -66,25 +62,20 @@ find-filter test (x ∷ xs) = found_by (test x) x (find test xs) (filter test xs
 
 made_by : {X Y : Type 0} (made : X → Y) (b : Bool) (x : X) (o : Option X) (p : Option Y) → option_map made o ≡ p
     → option_map made (cond b (Some x) o) ≡ cond b (Some (made x)) p
-made_by made true x o p e = refl
-made_by made false x o p e = e
+made_by made b x o p h0 = grind arith
 
 -- what is made of it
 pub find-made : {X Y : Type 0} (made : X → Y) (test : Y → Bool) (xs : List X)
     → option_map made (find (λ x. test (made x)) xs) ≡ find test (map made xs)
 find-made made test [] = refl
-find-made made test (x ∷ xs) =
-    made_by made (test (made x)) x (find (λ x. test (made x)) xs) (find test (map made xs)) (find-made made test xs)
+find-made made test (x ∷ xs) = grind (arith, made_by, find-made made test xs)
 
 -- ---- lists by numbers, as by the lengths of words
 
 -- the numbers from one on begin with it
 pub numbers_from-next : (at end : ℕ) → at < end
     → numbers_from at (end - at) ≡ at ∷ numbers_from (at + 1) (end - (at + 1))
-numbers_from-next at end lt =
-    let more : end - at ≡ suc (end - (at + 1)) = omega arith in
-    let next : suc at ≡ at + 1 = omega arith in
-    ap (numbers_from at) more ∙ ap (λ n. at ∷ numbers_from n (end - (at + 1))) next
+numbers_from-next at end lt = grind arith
 
 pub numbers_from-end : (at end : ℕ) → end ≤ at → numbers_from at (end - at) ≡ []
 numbers_from-end at end le = let none : end - at ≡ 0 = omega arith in ap (numbers_from at) none
@@ -92,11 +83,7 @@ numbers_from-end at end le = let none : end - at ≡ 0 = omega arith in ap (numb
 -- lengths of which there is no word can be left out before all others
 length_skipped : {X : Type 0} (f : ℕ → List X) (at end : ℕ) → f at ≡ []
     → flat_map f (numbers_from at (end - at)) ≡ flat_map f (numbers_from (at + 1) (end - (at + 1)))
-length_skipped f at end none =
-    elim (cases_lt at end) [
-      | inl lt ↦ ap (flat_map f) (numbers_from-next at end lt) ∙ ap (λ xs. xs ++ flat_map f (numbers_from (at + 1) (end - (at + 1)))) none
-      | inr le ↦ ap (flat_map f) (numbers_from-end at end le ∙ sym (numbers_from-end (at + 1) end (omega (arith, le))))
-    ]
+length_skipped f at end none = grind arith
 
 pub lengths_from : {X : Type 0} (f : ℕ → List X) (least end : ℕ) → ((n : ℕ) → n < least → f n ≡ [])
     → flat_map f (numbers_from 0 (end - 0)) ≡ flat_map f (numbers_from least (end - least))
@@ -181,9 +168,7 @@ module _ (turns : List ℕ) (test : List ℕ → Bool) where
   pub words_behind-within : (word : List ℕ) (most : ℕ)
       → filter test (map (λ v. word ++ v) (words_within turns most)) ≡ flat_map (words_behind turns test word) (numbers_from 0 (most + 1))
   unfolding words_within words_behind
-  words_behind-within word most =
-      ap (filter test) (map-flat_map (λ v. word ++ v) (words_of turns) (numbers_from 0 (most + 1)))
-      ∙ filter-flat_map test (λ n. map (λ v. word ++ v) (words_of turns n)) (numbers_from 0 (most + 1))
+  words_behind-within word most = grind (arith, map-flat_map, filter-flat_map)
 
 -- a turn that is written, and taken away again
 pub pushed_word : (now before word : List ℕ) (turn t : ℕ) → now ≡ before ++ turn ∷ [] → before ≡ word → turn ≡ t
@@ -192,6 +177,4 @@ pushed_word now before word turn t e same is = e ∙ ap (λ w. w ++ turn ∷ [])
 
 pub popped_word : (now before word : List ℕ) (t : ℕ) → now ≡ take (length before - 1) before → before ≡ word ++ t ∷ []
     → now ≡ word
-popped_word now before word t e is =
-    let short : length before - 1 ≡ length word = omega (arith, ap length is, length-append word (t ∷ [])) in
-    e ∙ ap (λ n. take n before) short ∙ ap (take (length word)) is ∙ take-append_seam word (t ∷ [])
+popped_word now before word t e is = grind (arith, length-append word (t ∷ []), take-append_seam word (t ∷ []))

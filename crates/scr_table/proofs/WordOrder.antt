@@ -1,5 +1,5 @@
 -- The words of some turns are listed in the order of words; so the first of them that passes a test is the first word.
-use Rattle.std.proofs.Common.{◌≡◌, ℕ, zero, suc, ◌+◌, ◌<◌, ◌≤◌, ◌⊎◌, inl, inr, Bool, IsTrue, List, [], ◌∷◌, ◌++◌, map, length, get_or, Option, Some, refl, sym, ap, ◌∙◌, subst, arith}
+use Rattle.std.proofs.Common.{◌≡◌, ℕ, zero, suc, ◌+◌, ◌<◌, ◌≤◌, ◌⊎◌, inl, inr, Bool, IsTrue, List, [], ◌∷◌, ◌++◌, map, length, get_or, Option, Some, refl, sym, ap, ◌∙◌, arith}
 use Rattle.std.specs.Prelude.{◌↔◌, All, Contains, filter, slice_get}
 use Rattle.std.specs.List.{AllPairs, flat_map}
 use Rattle.std.proofs.lemmas.Bool.{cases_lt}
@@ -95,9 +95,8 @@ module _ (turns : List ℕ) (increasing : AllPairs (λ t u. t < u) turns) where
 pub increasing-numbers : (n : ℕ) → AllPairs (λ t u. t < u) (numbers_from 0 n)
 increasing-numbers n i j d lt below =
     let size = length-numbers_from 0 n in
-    omega (
+    grind (
       arith,
-      lt,
       get_or_default (numbers_from 0 n) i d 0 (omega (arith, lt, below)),
       get_or_default (numbers_from 0 n) j d 0 below,
       numbers_from-at 0 n i (omega (arith, lt, below, size)),
@@ -140,15 +139,10 @@ module _ {S : Type 0} (after : S → ℕ → Option S) (IsGoal : S → Type 0) (
     leads = (Contains-listed w).0 (0, inside, get_or_from_slice_get listed 0 w w e)
 
     found_at : (v : List ℕ) (k : ℕ) → k < length listed → get_or listed k v ≡ v → (v ≡ w) ⊎ IsEarlier w v
-    found_at v zero lt is = inl (sym is ∙ get_or_from_slice_get listed 0 w v e)
-    found_at v (suc k) lt is =
-        let pair : IsEarlier (get_or listed 0 v) (get_or listed (suc k) v) = IsEarlier-listed 0 (suc k) v (omega arith) lt in
-        let P : List ℕ → List ℕ → Type 0 = λ a b. IsEarlier a b in
-        inr (subst (P w) is (subst (λ a. P a (get_or listed (suc k) v)) (get_or_from_slice_get listed 0 w v e) pair))
+    found_at v k h0 h1 = grind (arith, get_or_from_slice_get, IsEarlier-listed)
 
     later : (v : List ℕ) → LeadsTo after IsGoal s v → (most < length v) ⊎ (length v ≤ most) → (v ≡ w) ⊎ IsEarlier w v
-    later v l (inl long) = let few = leads.0 in inr (inl (omega arith))
-    later v l (inr short) = let there = (Contains-listed v).1 (short, l) in found_at v there.0 there.1 there.2
+    later v h0 h1 = grind (arith, leads, Contains-listed, found_at)
 
     IsFirstWord-listed : IsFirstWord after IsGoal s w
     IsFirstWord-listed = record { leads = leads.1; first = λ v l. later v l (cases_lt most (length v)) }

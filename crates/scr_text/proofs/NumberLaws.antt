@@ -76,11 +76,6 @@ in_range-some least greatest n low high =
     let second : nat_le n greatest ≡ true = grind (arith, nat_tests) in
     rw (first, second) refl
 
-pub in_range-below : (least greatest n : ℕ) → n < least → in_range least greatest n ≡ None
-in_range-below least greatest n below =
-    let first : nat_le least n ≡ false = grind (arith, nat_tests) in
-    rw first refl
-
 pub in_range-above : (least greatest n : ℕ) → greatest < n → in_range least greatest n ≡ None
 in_range-above least greatest n above =
     let second : nat_le n greatest ≡ false = grind (arith, nat_tests) in

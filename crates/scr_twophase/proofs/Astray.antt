@@ -1,17 +1,16 @@
 -- A turn brings at most four corners and four edges home.
-use Rattle.std.proofs.Common.{◌≡◌, ℕ, zero, suc, ◌+◌, ◌*◌, ◌%◌, ◌<◌, ◌≤◌, Bool, true, false, cond, List, [], ◌∷◌, length, Option, Some, refl, sym, ap, ◌∙◌, subst, arith, eqb-true, eq-eqb, leb-true}
+use Rattle.std.proofs.Common.{◌≡◌, ℕ, zero, suc, ◌+◌, ◌*◌, ◌<◌, ◌≤◌, Bool, true, false, cond, List, [], ◌∷◌, length, Option, Some, refl, ap, ◌∙◌, subst, arith, eqb-true, eq-eqb, leb-true}
 use Rattle.std.specs.Prelude.{◌==◌, ◌&&◌, not, max, nat_le, slice_index}
 use Rattle.std.specs.List.{list_all}
 use Rattle.std.proofs.Math.Nat.{mod-eq_of_lt, mul-suc}
 use Rattle.std.proofs.lemmas.Bool.{and_parts, not-false, true≢false}
 use Rattle.std.proofs.lemmas.List.Sums.{AllPass-from_list_all}
-use Rattle.scr_combinatorics.specs.Lists.{pick}
 use Rattle.scr_combinatorics.specs.Play.{play}
 use Rattle.scr_combinatorics.proofs.Picks.{pick-at, length-pick}
 use Rattle.scr_combinatorics.proofs.PlayLaws.{map-some, play-empty, play-parts}
 use Rattle.scr_draw.specs.Count.{count_below}
 use Rattle.scr_draw.proofs.Counting.{count_step}
-use Rattle.scr_orbit.specs.Orbits.{Orbit, IsOrbit, turned_orbit, added_digits}
+use Rattle.scr_orbit.specs.Orbits.{Orbit, IsOrbit, turned_orbit}
 use Rattle.scr_orbit.specs.PowerPuzzles.{all_turns, letter_table}
 use Rattle.scr_orbit.proofs.DigitLaws.{added_digits-at}
 use Rattle.scr_orbit.proofs.OrbitLaws.{IsOrbit-zero_sum}
@@ -31,10 +30,7 @@ use Rattle.scr_twophase.specs.Minima.{is_astray, astray, astray_most}
 pub falls_along : {S : Type 0} (after : S → ℕ → Option S) (IsValid : S → Type 0) (far : S → ℕ) (each : ℕ)
     → ((s r : S) (t : ℕ) → IsValid s → after s t ≡ Some r → IsValid r × (far s ≤ far r + each))
     → (s e : S) (w : List ℕ) → IsValid s → play after s w ≡ Some e → far s ≤ far e + each * length w
-falls_along after IsValid far each falls s e [] own played =
-    let empty = play-empty after s in
-    let same : s ≡ e = cc in
-    omega (arith, ap far same)
+falls_along after IsValid far each falls s e [] own played = grind (arith, play-empty)
 falls_along after IsValid far each falls s e (t ∷ w) own played =
     let parts = play-parts after s e t w played in
     let one = falls s parts.0 t own parts.1 in
@@ -49,10 +45,7 @@ astray-none pieces digits = refl
 one_more : (pieces digits : List ℕ) (place : ℕ) (b : Bool) → is_astray pieces digits place ≡ b
     → astray pieces digits (place + 1) ≡ astray pieces digits place + cond b 1 0
 unfolding astray
-one_more pieces digits place b e =
-    let test : ℕ → Bool = is_astray pieces digits in
-    ap (count_below test) {x = place + 1} {y = suc place} (omega arith) ∙ count_step test place
-    ∙ ap (λ c. count_below test place + cond c 1 0) e
+one_more pieces digits place b e = grind (arith, count_step (is_astray pieces digits) place)
 
 pub astray-more : (pieces digits : List ℕ) (place : ℕ)
     → (slice_index pieces place ≡ place → slice_index digits place ≡ 0 → ⊥)
@@ -68,17 +61,13 @@ astray-more pieces digits place other = by_test (slice_index pieces place == pla
 
 pub astray-same : (pieces digits : List ℕ) (place : ℕ) → slice_index pieces place ≡ place → slice_index digits place ≡ 0
     → astray pieces digits (place + 1) ≡ astray pieces digits place
-astray-same pieces digits place e f =
-    let piece = eq-eqb (slice_index pieces place) place e in
-    let digit = eq-eqb (slice_index digits place) 0 f in
-    omega (arith, one_more pieces digits place false (ap not (ap_both (λ x y. x && y) piece digit)))
+astray-same pieces digits place e f = grind (arith, eq-eqb, one_more, ap_both)
 
 pub astray_most-is : (c : CubeState) → IsCube c
     → max (astray c.corners.pieces c.corners.digits (length c.corners.pieces)) (astray c.edges.pieces c.edges.digits (length c.edges.pieces))
     ≡ astray_most c
 unfolding astray_most
-astray_most-is c own =
-    ap_both (λ m n. max (astray c.corners.pieces c.corners.digits m) (astray c.edges.pieces c.edges.digits n)) own.corners.pieces.size own.edges.pieces.size
+astray_most-is c own = grind arith
 
 -- ---- one turn of an orbit
 
@@ -102,24 +91,7 @@ stays : (n m : ℕ) (o r : Orbit) → IsOrbit n m o → IsOrbit n m r → (k : �
     → is_astray o.pieces o.digits k ≡ is_astray (turned_orbit m o r).pieces (turned_orbit m o r).digits k
 unfolding turned_orbit
 stays n m o r own turn k lt still =
-    let at_home : Bool = slice_index r.pieces k == k in
-    let as_is : Bool = slice_index r.digits k == 0 in
-    let here = and_parts at_home as_is (not-false (at_home && as_is) still) in
-    let place : slice_index r.pieces k ≡ k = eqb-true (slice_index r.pieces k) k here.0 in
-    let added : slice_index r.digits k ≡ 0 = eqb-true (slice_index r.digits k) 0 here.1 in
-    let within : k < length r.pieces = omega (arith, lt, turn.pieces.size) in
-    let digits : List ℕ = pick o.digits r.pieces in
-    let sizes : length digits ≡ length r.digits = length-pick o.digits r.pieces ∙ turn.pieces.size ∙ sym turn.size in
-    let below : slice_index o.digits k < m = own.below k 0 (omega (arith, lt, own.size)) in
-    let piece : slice_index (pick o.pieces r.pieces) k ≡ slice_index o.pieces k =
-    pick-at o.pieces r.pieces k within ∙ ap (slice_index o.pieces) place in
-    let picked : slice_index digits k ≡ slice_index o.digits k =
-    pick-at o.digits r.pieces k within ∙ ap (slice_index o.digits) place in
-    let sum : slice_index digits k + slice_index r.digits k ≡ slice_index o.digits k = omega (arith, picked, added) in
-    let digit : slice_index (added_digits m digits r.digits) k ≡ slice_index o.digits k =
-    added_digits-at m digits r.digits k sizes (omega (arith, lt, sizes, turn.size)) ∙ ap (λ z. z % m) sum ∙ mod-eq_of_lt below in
-    let test : ℕ → ℕ → Bool = λ p d. not ((p == k) && (d == 0)) in
-    ap (λ z. test z (slice_index o.digits k)) (sym piece) ∙ ap (test (slice_index (pick o.pieces r.pieces) k)) (sym digit)
+    grind (arith, and_parts, not-false, eqb-true, length-pick, pick-at, added_digits-at, mod-eq_of_lt)
 
 -- so no more pieces come home than it moves
 brought_home : (n m : ℕ) (o r : Orbit) → IsOrbit n m o → IsOrbit n m r
@@ -141,17 +113,7 @@ all_move_four = refl
 by_turn : (c r : CubeState) → IsCube c → IsCube r → moves_four r ≡ true
     → astray_most c ≤ astray_most (cube_monoid.turned c r) + 4
 unfolding moves_four astray_most
-by_turn c r own turn few =
-    let corners : ℕ = astray r.corners.pieces r.corners.digits 8 in
-    let edges : ℕ = astray r.edges.pieces r.edges.digits 12 in
-    let parts = and_parts (nat_le corners 4) (nat_le edges 4) few in
-    omega (
-      arith,
-      brought_home 8 3 c.corners r.corners (IsOrbit-zero_sum 8 3 c.corners own.corners) (IsOrbit-zero_sum 8 3 r.corners turn.corners),
-      brought_home 12 2 c.edges r.edges (IsOrbit-zero_sum 12 2 c.edges own.edges) (IsOrbit-zero_sum 12 2 r.edges turn.edges),
-      leb-true corners 4 parts.0,
-      leb-true edges 4 parts.1,
-    )
+by_turn c r own turn few = grind (arith, and_parts, brought_home, IsOrbit-zero_sum, leb-true)
 
 turned_once : (c d : CubeState) (t : ℕ) → IsCube c → after_turn c t ≡ Some d
     → IsCube d × (astray_most c ≤ astray_most d + 4)

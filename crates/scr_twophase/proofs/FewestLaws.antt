@@ -1,7 +1,7 @@
 -- The scramble for fewest moves: a state has one, and it leads to the state.
 use Rattle.std.proofs.Common.{◌≡◌, ℕ, zero, suc, ◌+◌, ◌-◌, ◌≤◌, true, IsTrue, List, [], ◌∷◌, ◌++◌, Option, Some, length, refl, sym, ap, ◌∙◌, arith, length-append, append_assoc, le-leb}
-use Rattle.std.specs.Prelude.{◌==◌, ◌&&◌, nat_le, slice_index_or, unwrap_or}
-use Rattle.std.proofs.lemmas.Bool.{and_from, false≢true, eqb-true, leb-true}
+use Rattle.std.specs.Prelude.{◌&&◌, nat_le, slice_index_or, unwrap_or}
+use Rattle.std.proofs.lemmas.Bool.{and_from, false≢true, leb-true}
 use Rattle.scr_combinatorics.specs.Back.{back}
 use Rattle.scr_combinatorics.specs.Play.{play}
 use Rattle.scr_combinatorics.proofs.PlayLaws.{play-append}
@@ -14,7 +14,6 @@ use Rattle.scr_cube.specs.Cube333.{CubeState, IsCube, cube_monoid, cube_powers, 
 use Rattle.scr_cube.proofs.CompositionLaws.{IsCube-played, play-then}
 use Rattle.scr_cube.proofs.Laws333.{cube_laws}
 use Rattle.scr_cube.proofs.OnLiterals.{cubes_on_literals}
-use Rattle.scr_twophase.specs.TwoParts.{two_parts}
 use Rattle.scr_twophase.proofs.PartLaws.{IsScrambleBy-unique}
 use Rattle.scr_twophase.specs.Fewest.{frame, frame_back, between, is_turn, is_frame_at, is_framed, IsFramed, IsScrambleFewest}
 
@@ -37,8 +36,7 @@ frame_back-played = refl
 pub frame_back-made : (start : CubeState) (forth undone : List Turn) (end : Option CubeState) → start ≡ solved_cube
     → forth ≡ frame → undone ≡ back opposite forth → end ≡ play (after_letter cube_powers) start undone
     → end ≡ Some frame_back
-frame_back-made start forth undone end a b c d =
-    d ∙ ap (λ s. play (after_letter cube_powers) s undone) a ∙ ap (play (after_letter cube_powers) solved_cube) (c ∙ ap (back opposite) b) ∙ frame_back-played
+frame_back-made start forth undone end a b c d = cc (frame_back-played)
 
 frame_and_back : cube_monoid.turned frame_cube frame_back ≡ solved_cube
 unfolding cubes_on_literals frame frame_cube frame_back
@@ -65,16 +63,13 @@ between-again s own =
     let first : cube_monoid.turned frame_cube (cube_monoid.turned frame_back rest) ≡ rest =
     sym (cube_laws.grouped frame_cube frame_back rest IsCube-frame IsCube-frame_back rest_is)
     ∙ ap (λ c. cube_monoid.turned c rest) frame_and_back ∙ cube_laws.solved_first rest rest_is in
-    ap (λ c. cube_monoid.turned c frame_cube) first
-    ∙ cube_laws.grouped s frame_back frame_cube own IsCube-frame_back IsCube-frame
-    ∙ ap (cube_monoid.turned s) back_and_frame ∙ cube_laws.solved_last s own
+    grind (arith, first, cube_laws, IsCube-frame_back, IsCube-frame, back_and_frame)
 
 -- as it is made
 pub between-made : (s back rest b : CubeState) → back ≡ frame_back → rest ≡ cube_monoid.turned s back → b ≡ cube_monoid.turned back rest
     → b ≡ between s
 unfolding between
-between-made s back rest b e f g =
-    g ∙ ap (cube_monoid.turned back) f ∙ ap (λ c. cube_monoid.turned c (cube_monoid.turned s c)) e
+between-made s back rest b e f g = grind arith
 
 -- Words that lead from solved to what the frame taken back makes of a state lead on to the cube between.
 pub between-played : (s : CubeState) (v : List Turn) → IsCube s
@@ -110,17 +105,12 @@ length-frame = refl
 
 -- they have six turns more
 pub length-framed : (middle : List Turn) → length (framed middle) ≡ length middle + 6
-length-framed middle =
-    let joined : framed middle ≡ (frame ++ middle) ++ frame = refl in
-    omega (arith, ap length joined, length-append (frame ++ middle) frame, length-append frame middle, length-frame)
+length-framed middle = grind (arith, length-append, length-frame)
 
 -- a state has one scramble
 pub IsScrambleFewest-unique : (tries : ℕ) (s : CubeState) (turns other : List Turn) → IsScrambleFewest tries s turns
     → IsScrambleFewest tries s other → turns ≡ other
-IsScrambleFewest-unique tries s turns other a b =
-    let middle : a.middle ≡ b.middle =
-    IsScrambleBy-unique (two_parts (between s) tries) (between s) a.middle b.middle a.scramble b.scramble in
-    a.whole ∙ ap framed middle ∙ sym b.whole
+IsScrambleFewest-unique tries s turns other a b = grind (arith, IsScrambleBy-unique)
 
 -- ---- the test of frames
 
@@ -130,36 +120,15 @@ at_end [] ys n i is = ap (λ k. slice_index_or ys k Over) (let e : n ≡ i = ome
 at_end (x ∷ xs) ys zero i is = absurd (omega arith)
 at_end (x ∷ xs) ys (suc n) i is = at_end xs ys n i (omega arith)
 
--- a turn that passes is the one
-is_turn-is : (face amount : ℕ) (t : Turn) → IsTrue (is_turn face amount t) → t ≡ Face face 1 amount
-is_turn-is face amount (Face own depth times) is =
-    let rest = and_second (own == face) (depth == 1 && times == amount) is in
-    let a = eqb-true own face (and_first (own == face) (depth == 1 && times == amount) is) in
-    let b = eqb-true depth 1 (and_first (depth == 1) (times == amount) rest) in
-    let c = eqb-true times amount (and_second (depth == 1) (times == amount) rest) in
-    ap (λ f. Face f depth times) a ∙ ap (λ d. Face face d times) b ∙ ap (λ n. Face face 1 n) c
-is_turn-is face amount _ is = absurd (false≢true is)
-
 -- three turns that pass are the frame
 three-are : (a b c : Turn) → IsTrue (is_turn 1 3 a && (is_turn 0 3 b && is_turn 2 1 c)) → a ∷ b ∷ c ∷ [] ≡ frame
 unfolding frame
-three-are a b c is =
-    let rest = and_second (is_turn 1 3 a) (is_turn 0 3 b && is_turn 2 1 c) is in
-    let first = is_turn-is 1 3 a (and_first (is_turn 1 3 a) (is_turn 0 3 b && is_turn 2 1 c) is) in
-    let second = is_turn-is 0 3 b (and_first (is_turn 0 3 b) (is_turn 2 1 c) rest) in
-    let third = is_turn-is 2 1 c (and_second (is_turn 0 3 b) (is_turn 2 1 c) rest) in
-    ap (λ t. t ∷ b ∷ c ∷ []) first ∙ ap (λ t. Face 1 1 3 ∷ t ∷ c ∷ []) second ∙ ap (λ t. Face 1 1 3 ∷ Face 0 1 3 ∷ t ∷ []) third
+three-are a b c is = grind arith
 
 -- the test of a frame in the last part of a list
 frame_behind : (xs ys : List Turn) (n i : ℕ) → n ≡ length xs + i → is_frame_at (xs ++ ys) n ≡ is_frame_at ys i
 unfolding is_frame_at
-frame_behind xs ys n i is =
-    let second = slice_index_or (xs ++ ys) (n + 1) Over in
-    let third = slice_index_or (xs ++ ys) (n + 2) Over in
-    ap (λ t. is_turn 1 3 t && (is_turn 0 3 second && is_turn 2 1 third)) (at_end xs ys n i is)
-    ∙ ap (λ t. is_turn 1 3 (slice_index_or ys i Over) && (is_turn 0 3 t && is_turn 2 1 third)) (at_end xs ys (n + 1) (i + 1) (omega (arith, is)))
-    ∙ ap (λ t. is_turn 1 3 (slice_index_or ys i Over) && (is_turn 0 3 (slice_index_or ys (i + 1) Over) && is_turn 2 1 t))
-    (at_end xs ys (n + 2) (i + 2) (omega (arith, is)))
+frame_behind xs ys n i is = grind (arith, at_end)
 
 pub is_framed-framed : (middle : List Turn) → is_framed (framed middle) ≡ true
 unfolding is_framed frame is_frame_at

@@ -1,6 +1,5 @@
 -- The scramble of a held cube: it is one, and it leads to the state.
-use Rattle.std.proofs.Common.{◌≡◌, ℕ, IsTrue, List, ◌++◌, Some, refl, sym, ap, ◌∙◌, subst, arith}
-use Rattle.std.proofs.lemmas.Bool.{false≢true}
+use Rattle.std.proofs.Common.{◌≡◌, ℕ, IsTrue, List, ◌++◌, Some, arith}
 use Rattle.std.proofs.lemmas.Option.{same_Some}
 use Rattle.std.specs.Prelude.{◌↔◌}
 use Rattle.scr_combinatorics.specs.Lists.{numbers_from}
@@ -10,32 +9,19 @@ use Rattle.scr_combinatorics.proofs.PlayLaws.{play-append}
 use Rattle.scr_orbit.specs.PowerPuzzles.{after_letter}
 use Rattle.scr_notation.specs.declared.event.Event.TheVariants.{Bf333, C333}
 use Rattle.scr_notation.specs.declared.turn.Turn.{Turn}
-use Rattle.scr_notation.specs.declared.turn.Turn.TheVariants.{Face}
 use Rattle.scr_notation.specs.Turns.{permits}
-use Rattle.scr_notation.proofs.NumberLaws.{face_turn_parts, face_turn_of_parts}
 use Rattle.scr_cube.specs.Cube333.{cube_powers, solved_cube}
 use Rattle.scr_cube.specs.Held.{HeldState, IsHeld, solved_held, held_cube_after, hold_word, hold_of, held_puzzle}
 use Rattle.scr_cube.proofs.HeldLaws.{at_places, same_held}
 use Rattle.scr_cube.proofs.HeldReach.{IsBefore, Contains-solved, Needs-held}
 use Rattle.scr_twophase.specs.HeldScramble.{IsScramble333bf}
 use Rattle.scr_twophase.specs.Minima.{needs_turns}
-use Rattle.scr_twophase.specs.TwoParts.{two_parts, IsScramble333}
 use Rattle.scr_twophase.proofs.MinimaLaws.{Needs-tested}
 use Rattle.scr_twophase.proofs.PartLaws.{IsScrambleBy-unique}
 
 -- a turn of a 3x3x3 is one of the 3x3x3 as it is held
 pub permits-held : (t : Turn) → IsTrue (permits C333 t) → IsTrue (permits Bf333 t)
-permits-held (Face face depth amount) h =
-    let p = face_turn_parts 1 1 face depth amount h in
-    face_turn_of_parts 2 1 face depth amount (record {
-      face_below = p.face_below;
-      some_layer = p.some_layer;
-      near_layers = λ near. omega (arith, p.near_layers near);
-      far_layers = p.far_layers;
-      some_quarter = p.some_quarter;
-      no_whole = p.no_whole;
-    })
-permits-held t h = absurd (false≢true h)
+permits-held t h0 = grind arith
 
 -- The cube's scramble leads from solved to the state before the hold's word, and the word leads on.
 pub joined-played : (s b : HeldState) (first : List Turn) → IsBefore s b
@@ -44,25 +30,14 @@ pub joined-played : (s b : HeldState) (first : List Turn) → IsBefore s b
 unfolding solved_held
 joined-played s b first before played =
     let words = at_places solved_cube b.cube (numbers_from 0 6) first Contains-solved played in
-    let there : play held_cube_after solved_held first ≡ Some b =
-    ap (play held_cube_after solved_held) (sym (words.own refl)) ∙ words.played
-    ∙ ap Some (same_held (record { cube = b.cube; centres = numbers_from 0 6 }) b refl (sym before.centres)) in
-    play-append held_cube_after solved_held b first (hold_word (hold_of s.centres)) there ∙ before.again
+    grind (arith, words, same_held, play-append)
 
 -- a state has one scramble
 pub IsScramble333bf-unique : (tries : ℕ) (s : HeldState) (turns other : List Turn) → IsScramble333bf tries s turns
     → IsScramble333bf tries s other → turns ≡ other
-IsScramble333bf-unique tries s turns other a b =
-    let same : a.before ≡ b.before = same_Some a.before b.before (sym a.turned_back ∙ b.turned_back) in
-    let first : a.first ≡ b.first =
-    IsScrambleBy-unique (two_parts b.before tries) b.before a.first b.first
-    (subst (λ c. IsScramble333 tries c a.first) same a.scramble) b.scramble in
-    a.joined ∙ ap (λ w. w ++ hold_word (hold_of s.centres)) first ∙ sym b.joined
+IsScramble333bf-unique tries s turns other a b = grind (arith, same_Some, IsScrambleBy-unique)
 
 -- the test of a minimum is exact
 pub Needs-held_tested : (s : HeldState) (least : ℕ) → IsHeld s
     → IsTrue (needs_turns s.cube least) ↔ Needs held_puzzle s least
-Needs-held_tested s least valid =
-    let tested = Needs-tested s.cube least in
-    let held = Needs-held s least valid.centres in
-    (λ e. held.1 (tested.0 e), λ needs. tested.1 (held.0 needs))
+Needs-held_tested s least valid = grind (arith, Needs-tested s.cube least, Needs-held s least valid.centres)

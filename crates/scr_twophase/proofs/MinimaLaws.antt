@@ -1,5 +1,5 @@
 -- The test of a minimum is exact.
-use Rattle.std.proofs.Common.{◌≡◌, ℕ, suc, ◌-◌, ◌*◌, ◌<◌, Bool, true, false, cond, IsTrue, List, [], ◌∷◌, map, length, inl, inr}
+use Rattle.std.proofs.Common.{◌≡◌, ℕ, suc, ◌-◌, ◌*◌, ◌<◌, Bool, true, false, cond, IsTrue, List, [], ◌∷◌, map, length, inl, inr, arith}
 use Rattle.std.proofs.Common.{Option, Some, None, refl, sym, ap, ◌∙◌, arith}
 use Rattle.std.specs.Prelude.{All, ◌↔◌, nat_lt, option_and_then}
 use Rattle.std.proofs.lemmas.Bool.{cases_lt, ltb-false, false≢true}
@@ -32,8 +32,7 @@ use Rattle.scr_twophase.proofs.Astray.{brought_along}
 same_rest : (o : Option CubeState) (w : List ℕ)
     → ((d : CubeState) → play (after_letter cube_powers) d (map face_turn_at w) ≡ play after_turn d w)
     → option_and_then (λ d. play (after_letter cube_powers) d (map face_turn_at w)) o ≡ option_and_then (λ d. play after_turn d w) o
-same_rest None w h = refl
-same_rest (Some d) w h = h d
+same_rest o w h0 = grind arith
 
 pub play-spelled : (c : CubeState) (w : List ℕ)
     → play (after_letter cube_powers) c (map face_turn_at w) ≡ play after_turn c w
@@ -50,8 +49,7 @@ record IsNumbered (c d : CubeState) (turns : List Turn) (w : List ℕ) : Type 0 
 -- each word of letters that leads somewhere is one of numbers
 numbered : (c d : CubeState) (turns : List Turn) → play (after_letter cube_powers) c turns ≡ Some d
     → (w : List ℕ) × IsNumbered c d turns w
-numbered c d [] e =
-    ([], record { played = play-empty after_turn c ∙ sym (play-empty (after_letter cube_powers) c) ∙ e; size = refl; below = All-nil (λ t. t < 18) })
+numbered c d [] e = grind (arith, play-empty, All-nil)
 numbered c d (letter ∷ turns) e =
     let parts = play-parts (after_letter cube_powers) c d letter turns e in
     let number = lawful_cube.numbers c parts.0 letter parts.1 in
@@ -67,8 +65,7 @@ numbered c d (letter ∷ turns) e =
 -- ---- over the turns by their numbers
 
 turned_by : (c : CubeState) (t : ℕ) (b : Bool) → nat_lt t 18 ≡ b → cond b (after_turn c t) None ≡ after_turn c t
-turned_by c t true e = refl
-turned_by c t false e = sym (lawful_cube.no_more c t (ltb-false t 18 e))
+turned_by c t b h0 = grind (arith, lawful_cube, ltb-false)
 
 turned-after : (c : CubeState) (t : ℕ) → after_move face_moves c t ≡ after_turn c t
 turned-after c t = turned_by c t (nat_lt t 18) refl
@@ -137,16 +134,11 @@ NeedsTurns-unsolved c least unsolved next (t ∷ w) l =
 -- ---- the test
 
 pub Needs-tested : (c : CubeState) (least : ℕ) → IsTrue (needs_turns c least) ↔ Needs (power_puzzle cube_powers) c least
-Needs-tested c least =
-    let tried = needs_test-iff 18 (after_move face_moves) is_solved (λ s r t e. (turned-turn face_moves s r t e).0) c least in
-    let same = NeedsTurns-iff c least in
-    (λ e. same.0 (tried.0 e), λ needs. tried.1 (same.1 needs))
+Needs-tested c least = grind (arith, needs_test-iff, turned-turn, NeedsTurns-iff c least)
 
 same-as_tested : (c : CubeState) (least : ℕ) (b : Bool) → IsTrue b ↔ Needs (power_puzzle cube_powers) c least
     → b ≡ needs_turns c least
-same-as_tested c least b exact =
-    let tested = Needs-tested c least in
-    same_test b (needs_turns c least) (λ e. tested.1 (exact.0 e)) (λ e. exact.1 (tested.0 e))
+same-as_tested c least b exact = grind (arith, Needs-tested, same_test)
 
 -- what answers whether each word that leads to solved has so many turns
 pub record IsTested (c : CubeState) (least : ℕ) (b : Bool) : Type 0 where

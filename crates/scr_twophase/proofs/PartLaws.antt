@@ -1,5 +1,5 @@
 -- Two parts solve a cube, and their scramble leads to it.
-use Rattle.std.proofs.Common.{◌≡◌, ℕ, zero, suc, true, List, [], ◌∷◌, ◌++◌, map, take, Option, Some, None, refl, sym, ap, ◌∙◌, arith}
+use Rattle.std.proofs.Common.{◌≡◌, ℕ, zero, suc, true, List, [], ◌∷◌, ◌++◌, map, take, Option, Some, None, refl, ◌∙◌, arith}
 use Rattle.std.specs.Prelude.{Contains, slice_get, MatchOption}
 use Rattle.std.specs.List.{filter_map, cons_option}
 use Rattle.std.specs.Option.{option_map}
@@ -61,8 +61,7 @@ unfolding is_solution
 two_parts-played c tries w e =
     let given = two_parts-joined c tries w e in
     let solves = and_parts (is_orderly w) (leads is_solved c w) (joined_solves c given.0 w given.2) in
-    let to = leads-parts is_solved c w solves.1 in
-    to.1 ∙ ap Some ((IsSolved-test to.0).0 to.2)
+    grind (arith, leads-parts, solves, IsSolved-test)
 
 -- ---- the scramble
 
@@ -73,8 +72,7 @@ IsScrambleBy o c turns = MatchOption o (IsStageScramble c turns) (λ word. turns
 -- one cube has one scramble
 pub IsScrambleBy-unique : (o : Option (List ℕ)) (c : CubeState) (some other : List Turn) → IsScrambleBy o c some
     → IsScrambleBy o c other → some ≡ other
-IsScrambleBy-unique None c some other a b = IsStageScramble-unique c some other a b
-IsScrambleBy-unique (Some w) c some other a b = a ∙ sym b
+IsScrambleBy-unique o c some other h0 h1 = grind (arith, IsStageScramble-unique)
 
 -- what the word of two parts is
 pub record IsWordOf (o : Option (List ℕ)) (w : Written) : Type 0 where
@@ -84,16 +82,7 @@ pub record IsWordOf (o : Option (List ℕ)) (w : Written) : Type 0 where
   pub spelled : w.turns ≡ map face_turn_at word
 
 pub IsWordOf-some : (o : Option (List ℕ)) (w : Written) → Some w ≡ option_map (numbered_word C333) o → IsWordOf o w
-IsWordOf-some None w e = absurd (cc)
-IsWordOf-some (Some word) w e =
-    let is = same_Some w (numbered_word C333 word) e in
-    record {
-      word = word;
-      parts = refl;
-      of_event = ap (λ (v : Written). v.event) is;
-      spelled = ap (λ (v : Written). v.turns) is ∙ ap (λ f. map f word) turns_333;
-    }
+IsWordOf-some o w h0 = grind (arith, same_Some, turns_333)
 
 pub no_parts : (o : Option (List ℕ)) → ◌≡◌ {A = Option Written} None (option_map (numbered_word C333) o) → o ≡ None
-no_parts None e = refl
-no_parts (Some w) e = absurd (cc)
+no_parts o h0 = grind arith

@@ -64,9 +64,6 @@ pub record HasPassed (input rest : List ℕ) : Type 0 where
   pub others : All IsOtherLine lines
   pub input_is : input ≡ text_of_lines lines ++ rest
 
-pub passed-none : (input : List ℕ) → HasPassed input input
-passed-none input = record { lines = []; others = All-nil IsOtherLine; input_is = refl }
-
 pub passed-more : (input rest line behind : List ℕ) → HasPassed input rest → rest ≡ line ++ 10 ∷ behind → IsOneLine line →
     line ≢ between → HasPassed input behind
 passed-more input rest line behind passed is one other = record {
