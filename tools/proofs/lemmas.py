@@ -50,7 +50,7 @@ def lemmas_of(lines):
             line = lines[here]
             if line.startswith(f"{indent}{name} ") and not SIGNATURE.match(line):
                 clauses.append([here, here + 1])
-            elif clauses and line.startswith(indent + "    "):
+            elif clauses and (line.startswith(indent + "  ") or not is_balanced("\n".join(lines[clauses[-1][0] : here]))):
                 clauses[-1][1] = here + 1
             elif clauses or not line.startswith((indent + "  ", indent + "unfolding")):
                 break
